@@ -1,0 +1,77 @@
+-- Cells and what is asked of them (document 01, "Words of the table" and "Adding a contact").
+use mathlib.Core.Bool.{Bool, true, false, cond, _&&_, _||_}
+use mathlib.Core.Option.{Option, none, some}
+use mathlib.Core.List.{List, [], _∷_, List·Memᴰ}
+use Prim.Native.Nat.{ℕ, _+_, _≤_, _<_, min, max}
+use lib.Dec.{leb, ltb}
+use Rattle.journeys.specs.Journey.{Interval}
+
+-- The intervals of an ordered pair, in the order of the rows.
+abbrev pub Cell : Type 0
+Cell = List Interval
+
+-- The interval departs and arrives before the first of the cell, if there is one.
+abbrev pub Before : Interval → Cell → Type 0
+Before i [] = Unit {0}
+Before i (j ∷ c) = (i .departure < j .departure) × (i .arrival < j .arrival)
+
+-- Departures and arrivals are both strictly rising.
+abbrev pub Rising : Cell → Type 0
+Rising [] = Unit {0}
+Rising (i ∷ c) = Before i c × Rising c
+
+-- The departure is 1 to τ, the arrival is departure + δ to τ + δ.
+pub record Limits (τ δ : ℕ) (i : Interval) : Type 0 where
+  pub departs : 1 ≤ i .departure
+  pub in-time : i .departure ≤ τ
+  pub carried : i .departure + δ ≤ i .arrival
+  pub arrives : i .arrival ≤ τ + δ
+
+-- A cell is well formed for τ ticks and carry time δ.
+pub record WellFormedCell (τ δ : ℕ) (c : Cell) : Type 0 where
+  pub rising : Rising c
+  pub limits : (i : Interval) → List·Memᴰ i c → Limits τ δ i
+
+-- The later of two departures, where the second may be missing.
+unfoldable pub later : ℕ → Option ℕ → Option ℕ
+later d none = some d
+later d (some e) = some (max d e)
+
+-- The sooner of two arrivals, where the second may be missing.
+unfoldable pub sooner : ℕ → Option ℕ → Option ℕ
+sooner d none = some d
+sooner d (some e) = some (min d e)
+
+-- The latest departure in the cell with arrival at most t, if any.
+unfoldable pub latestDeparture : Cell → ℕ → Option ℕ
+latestDeparture [] t = none
+latestDeparture (i ∷ c) t = cond (leb (i .arrival) t) (later (i .departure) (latestDeparture c t)) (latestDeparture c t)
+
+-- The earliest arrival in the cell with departure at least t, if any.
+unfoldable pub earliestArrival : Cell → ℕ → Option ℕ
+earliestArrival [] t = none
+earliestArrival (i ∷ c) t = cond (leb t (i .departure)) (sooner (i .arrival) (earliestArrival c t)) (earliestArrival c t)
+
+-- The first interval lies inside the second, or equals it.
+abbrev pub inside : Interval → Interval → Bool
+inside j i = leb (i .departure) (j .departure) && leb (j .arrival) (i .arrival)
+
+-- An interval inside i, or equal to it, stands in the cell.
+unfoldable pub hasInside : Interval → Cell → Bool
+hasInside i [] = false
+hasInside i (j ∷ c) = inside j i || hasInside i c
+
+-- The cell without the intervals that contain i.
+unfoldable pub withoutContaining : Interval → Cell → Cell
+withoutContaining i [] = []
+withoutContaining i (j ∷ c) = cond (inside i j) (withoutContaining i c) (j ∷ withoutContaining i c)
+
+-- i put in order of departure.
+unfoldable pub putInOrder : Interval → Cell → Cell
+putInOrder i [] = i ∷ []
+putInOrder i (j ∷ c) = cond (ltb (i .departure) (j .departure)) (i ∷ j ∷ c) (j ∷ putInOrder i c)
+
+-- i enters the cell: if an interval inside or equal to it stands there, nothing changes; else those that contain it
+-- go and it is put in order.
+unfoldable pub enter : Interval → Cell → Cell
+enter i c = cond (hasInside i c) c (putInOrder i (withoutContaining i c))

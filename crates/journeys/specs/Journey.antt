@@ -1,0 +1,61 @@
+-- Contacts, journeys and minimal intervals (document 01, "Animals, ticks, carry time").
+use mathlib.Core.Path.{_≡_}
+use mathlib.Core.Logic.{_↔_, _⊎_, _≢_}
+use mathlib.Core.List.{List, List·Memᴰ}
+use Prim.Native.Nat.{ℕ, _+_, _≤_, _<_}
+
+-- A contact (u, v, t): it leaves u at t and arrives at v at t + δ, where δ is the carry time.
+pub record Contact : Type 0 where
+  pub from : ℕ
+  pub to : ℕ
+  pub tick : ℕ
+
+abbrev pub contact : ℕ → ℕ → ℕ → Contact
+contact u v t = record { from = u; to = v; tick = t }
+
+-- A set of contacts.
+abbrev pub Contacts : Type 1
+Contacts = Contact → Type 0
+
+-- The contacts of a list, as a set.
+abbrev pub In : List Contact → Contacts
+In l k = List·Memᴰ k l
+
+-- The set with one contact more.
+abbrev pub With : Contacts → Contact → Contacts
+With S k c = S c ⊎ (c ≡ k)
+
+-- The two sets have the same contacts.
+abbrev pub Same : Contacts → Contacts → Type 0
+Same S R = (k : Contact) → S k ↔ R k
+
+-- Every contact of the set is between different animals.
+abbrev pub Apart : Contacts → Type 0
+Apart S = (k : Contact) → S k → k .from ≢ k .to
+
+-- An interval [departure, arrival].
+pub record Interval : Type 0 where
+  pub departure : ℕ
+  pub arrival : ℕ
+
+abbrev pub interval : ℕ → ℕ → Interval
+interval a b = record { departure = a; arrival = b }
+
+-- The first interval lies inside the second, or equals it.
+abbrev pub Inside : Interval → Interval → Type 0
+Inside j i = (i .departure ≤ j .departure) × (j .arrival ≤ i .arrival)
+
+-- A journey that arrives at y at b, from x with departure a: one contact or more, each starting where the last
+-- arrived, at or after that arrival. An animal may come twice.
+pub data JourneyTo (S : Contacts) (δ y b : ℕ) : ℕ → ℕ → Type 0 where
+  single : {x a : ℕ} → S (contact x y a) → a + δ ≡ b → JourneyTo S δ y b x a
+  onward : {x a : ℕ} (z s : ℕ) → S (contact x z a) → a + δ ≤ s → JourneyTo S δ y b z s → JourneyTo S δ y b x a
+
+-- A journey of the contacts S from x to y whose interval is i: [first departure, last arrival].
+abbrev pub Journey : Contacts → ℕ → ℕ → ℕ → Interval → Type 0
+Journey S δ x y i = JourneyTo S δ y (i .arrival) x (i .departure)
+
+-- A journey interval is minimal for its pair when no other journey interval of that pair lies inside it.
+pub record Minimal (S : Contacts) (δ x y : ℕ) (i : Interval) : Type 0 where
+  pub journey : Journey S δ x y i
+  pub least : (j : Interval) → Journey S δ x y j → Inside j i → j ≡ i

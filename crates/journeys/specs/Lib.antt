@@ -1,0 +1,4 @@
+pub mod Journey
+pub mod Cell
+pub mod Adding
+pub mod Theorems

@@ -1,0 +1,185 @@
+-- The six words of document 01, packed and read again: each law is an instance of the laws of `Fields`.
+-- Assumes nothing.
+use mathlib.Core.Path.{_≡_, ap, _∙_}
+use mathlib.Core.Bool.{true}
+use mathlib.Core.List.{List, [], _∷_}
+use Prim.Native.Nat.{ℕ, _+_, _-_, _^_, _≤_, _<_}
+use native.Mathlib.Nat.{add-sub-cancel, sub-add-cancel}
+use native.Mathlib.Omega.{arith}
+use lib.ListN.{getD}
+use Rattle.journeys.specs.Journey.{Contact, contact, Interval, interval}
+use Rattle.words.specs.Layout.{get, pack, unpack, isOf}
+use Rattle.words.specs.Words.{unusedLayout, unusedWord, departureField, arrivalField, intervalLayout, intervalWord, intervalOf, fromField, toField, tickField, contactLayout, contactWord, contactOf, animalsField, carryField, ticksField, openingLayout, openingWord, animalsOf, ticksOf, carryOf, rowsField, countLayout, countWord, loggedField, endLayout, endWord}
+use Rattle.words.proofs.Fields.{Descending, Fitting, get-bound, unpack-pack, isOf-pack, pack-unpack}
+
+-- ---- unused
+
+-- The unused word is unused.
+pub unusedWord-is : isOf unusedLayout unusedWord ≡ true
+unusedWord-is = isOf-pack unusedLayout [] tt tt
+
+-- No other word is unused.
+pub unusedWord-only : (w : ℕ) → isOf unusedLayout w ≡ true → unusedWord ≡ w
+unusedWord-only w e = pack-unpack unusedLayout w e
+
+-- ---- interval
+
+-- The fields of an interval word lie below bit 30 and do not overlap.
+pub interval-descends : Descending 30 (intervalLayout .fields)
+interval-descends = (omega arith, (omega arith, tt))
+
+-- The values of an interval word's fields.
+abbrev intervalValues : Interval → List ℕ
+intervalValues i = i .departure ∷ i .arrival ∷ []
+
+module _ (i : Interval) (d : i .departure < 2048) (a : i .arrival < 2048) where
+  -- An interval word says its interval.
+  pub intervalOf-word : intervalOf (intervalWord i) ≡ i
+  intervalOf-word =
+      ap (λ (vs : List ℕ). interval (getD vs 0 0) (getD vs 1 0)) (unpack-pack intervalLayout (intervalValues i) interval-descends (d, (a, tt)))
+
+  -- An interval word is one.
+  pub intervalWord-is : isOf intervalLayout (intervalWord i) ≡ true
+  intervalWord-is = isOf-pack intervalLayout (intervalValues i) interval-descends (d, (a, tt))
+
+-- An interval word is the word of the interval that it says.
+pub intervalWord-of : (w : ℕ) → isOf intervalLayout w ≡ true → intervalWord (intervalOf w) ≡ w
+intervalWord-of w e = pack-unpack intervalLayout w e
+
+-- The departure and the arrival that a word says are below 2048.
+pub intervalOf-bound : (w : ℕ) → (intervalOf w .departure < 2048) × (intervalOf w .arrival < 2048)
+intervalOf-bound w = (get-bound departureField w, get-bound arrivalField w)
+
+-- ---- contact
+
+-- The fields of a contact word lie below bit 30 and do not overlap.
+pub contact-descends : Descending 30 (contactLayout .fields)
+contact-descends = (omega arith, (omega arith, (omega arith, tt)))
+
+-- The values of a contact word's fields.
+abbrev contactValues : Contact → List ℕ
+contactValues k = k .from ∷ k .to ∷ (k .tick - 1) ∷ []
+
+module _ (k : Contact) (u : k .from < 256) (v : k .to < 256) (l : 1 ≤ k .tick) (m : k .tick ≤ 1024) where
+  -- The values fit their fields.
+  contact-fits : Fitting (contactLayout .fields) (contactValues k)
+  contact-fits = (u, (v, (omega arith, tt)))
+
+  -- A contact word says its contact.
+  pub contactOf-word : contactOf (contactWord k) ≡ k
+  contactOf-word =
+      ap (λ (vs : List ℕ). contact (getD vs 0 0) (getD vs 1 0) (getD vs 2 0 + 1))
+      (unpack-pack contactLayout (contactValues k) contact-descends contact-fits)
+      ∙ ap (λ (t : ℕ). contact (k .from) (k .to) t) (sub-add-cancel l)
+
+  -- A contact word is one.
+  pub contactWord-is : isOf contactLayout (contactWord k) ≡ true
+  contactWord-is = isOf-pack contactLayout (contactValues k) contact-descends contact-fits
+
+-- A contact word is the word of the contact that it says.
+pub contactWord-of : (w : ℕ) → isOf contactLayout w ≡ true → contactWord (contactOf w) ≡ w
+contactWord-of w e =
+    ap (λ (t : ℕ). pack contactLayout (get fromField w ∷ get toField w ∷ t ∷ [])) (add-sub-cancel (get tickField w) 1)
+    ∙ pack-unpack contactLayout w e
+
+-- The animals that a word says are below 256, and its tick is of 1 to 1024.
+pub contactOf-bound : (w : ℕ) → (contactOf w .from < 256) × (contactOf w .to < 256) × (1 ≤ contactOf w .tick) × (contactOf w .tick ≤ 1024)
+contactOf-bound w =
+    let l : get tickField w < 1024 = get-bound tickField w in
+    (get-bound fromField w, get-bound toField w, omega arith, omega arith)
+
+-- ---- opening
+
+-- The fields of an opening word lie below bit 30 and do not overlap.
+pub opening-descends : Descending 30 (openingLayout .fields)
+opening-descends = (omega arith, (omega arith, (omega arith, tt)))
+
+-- The values of an opening word's fields.
+abbrev openingValues : ℕ → ℕ → ℕ → List ℕ
+openingValues n τ δ = (n - 1) ∷ (δ - 1) ∷ (τ - 1) ∷ []
+
+module _ (n τ δ : ℕ) (n₁ : 1 ≤ n) (n₂ : n ≤ 256) (τ₁ : 1 ≤ τ) (τ₂ : τ ≤ 1024) (δ₁ : 1 ≤ δ) (δ₂ : δ ≤ 256) where
+  -- The values fit their fields.
+  opening-fits : Fitting (openingLayout .fields) (openingValues n τ δ)
+  opening-fits = (omega arith, (omega arith, (omega arith, tt)))
+
+  -- Unpacking gives the values back.
+  opening-read : unpack openingLayout (openingWord n τ δ) ≡ openingValues n τ δ
+  opening-read = unpack-pack openingLayout (openingValues n τ δ) opening-descends opening-fits
+
+  -- An opening word says its number of animals.
+  pub animalsOf-word : animalsOf (openingWord n τ δ) ≡ n
+  animalsOf-word = ap (λ (vs : List ℕ). getD vs 0 0 + 1) opening-read ∙ sub-add-cancel n₁
+
+  -- An opening word says its number of ticks.
+  pub ticksOf-word : ticksOf (openingWord n τ δ) ≡ τ
+  ticksOf-word = ap (λ (vs : List ℕ). getD vs 2 0 + 1) opening-read ∙ sub-add-cancel τ₁
+
+  -- An opening word says its carry time.
+  pub carryOf-word : carryOf (openingWord n τ δ) ≡ δ
+  carryOf-word = ap (λ (vs : List ℕ). getD vs 1 0 + 1) opening-read ∙ sub-add-cancel δ₁
+
+  -- An opening word is one.
+  pub openingWord-is : isOf openingLayout (openingWord n τ δ) ≡ true
+  openingWord-is = isOf-pack openingLayout (openingValues n τ δ) opening-descends opening-fits
+
+-- An opening word is the word of the numbers that it says.
+pub openingWord-of : (w : ℕ) → isOf openingLayout w ≡ true → openingWord (animalsOf w) (ticksOf w) (carryOf w) ≡ w
+openingWord-of w e =
+    rw (add-sub-cancel (get animalsField w) 1, add-sub-cancel (get carryField w) 1, add-sub-cancel (get ticksField w) 1) (pack-unpack openingLayout w e)
+
+-- The number of animals that a word says is of 1 to 256.
+pub animalsOf-bound : (w : ℕ) → (1 ≤ animalsOf w) × (animalsOf w ≤ 256)
+animalsOf-bound w = let l : get animalsField w < 256 = get-bound animalsField w in (omega arith, omega arith)
+
+-- The number of ticks that a word says is of 1 to 1024.
+pub ticksOf-bound : (w : ℕ) → (1 ≤ ticksOf w) × (ticksOf w ≤ 1024)
+ticksOf-bound w = let l : get ticksField w < 1024 = get-bound ticksField w in (omega arith, omega arith)
+
+-- The carry time that a word says is of 1 to 256.
+pub carryOf-bound : (w : ℕ) → (1 ≤ carryOf w) × (carryOf w ≤ 256)
+carryOf-bound w = let l : get carryField w < 256 = get-bound carryField w in (omega arith, omega arith)
+
+-- ---- count
+
+-- The field of a count word lies below bit 30.
+pub count-descends : Descending 30 (countLayout .fields)
+count-descends = (omega arith, tt)
+
+-- A count word says its number of rows.
+pub rowsOf-word : (k : ℕ) → k < 2048 → get rowsField (countWord k) ≡ k
+rowsOf-word k l = ap (λ (vs : List ℕ). getD vs 0 0) (unpack-pack countLayout (k ∷ []) count-descends (l, tt))
+
+-- A count word is one.
+pub countWord-is : (k : ℕ) → k < 2048 → isOf countLayout (countWord k) ≡ true
+countWord-is k l = isOf-pack countLayout (k ∷ []) count-descends (l, tt)
+
+-- A count word is the word of the number of rows that it says.
+pub countWord-of : (w : ℕ) → isOf countLayout w ≡ true → countWord (get rowsField w) ≡ w
+countWord-of w e = pack-unpack countLayout w e
+
+-- The number of rows that a word says is below 2048.
+pub rowsOf-bound : (w : ℕ) → get rowsField w < 2048
+rowsOf-bound w = get-bound rowsField w
+
+-- ---- end of log
+
+-- The field of an end word lies below bit 30.
+pub end-descends : Descending 30 (endLayout .fields)
+end-descends = (omega arith, tt)
+
+-- An end word says its number of contacts.
+pub loggedOf-word : (k : ℕ) → k < 2 ^ 26 → get loggedField (endWord k) ≡ k
+loggedOf-word k l = ap (λ (vs : List ℕ). getD vs 0 0) (unpack-pack endLayout (k ∷ []) end-descends (l, tt))
+
+-- An end word is one.
+pub endWord-is : (k : ℕ) → k < 2 ^ 26 → isOf endLayout (endWord k) ≡ true
+endWord-is k l = isOf-pack endLayout (k ∷ []) end-descends (l, tt)
+
+-- An end word is the word of the number of contacts that it says.
+pub endWord-of : (w : ℕ) → isOf endLayout w ≡ true → endWord (get loggedField w) ≡ w
+endWord-of w e = pack-unpack endLayout w e
+
+-- The number of contacts that a word says is below 2 ^ 26.
+pub loggedOf-bound : (w : ℕ) → get loggedField w < 2 ^ 26
+loggedOf-bound w = get-bound loggedField w
