@@ -165,3 +165,9 @@ add-diagonal δ T k x = go (eq-outcome x x)
     go : {b : Bool} → Outcome (x ≡ x) (x ≢ x) b → cond b (T x x) (enterBoth (departureOf T k x) (arrivalOf δ T k x) (T x x)) ≡ T x x
     go (holds e) = refl
     go (fails m) = absurd (m refl)
+
+-- The rule reads three cells.
+pub add-same : (δ : ℕ) (T U : Cells) (k : Contact) (x y : ℕ) → T x y ≡ U x y → T x (k .from) ≡ U x (k .from) → T (k .to) y ≡ U (k .to) y
+    → add δ T k x y ≡ add δ U k x y
+unfolding add departureOf arrivalOf
+add-same δ T U k x y e d a = rw (e, d, a)

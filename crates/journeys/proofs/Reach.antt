@@ -33,6 +33,12 @@ module _ {S : Contacts} {δ y b : ℕ} where
   journey-carries (single c e) = omega arith
   journey-carries (onward z s c h j) = let k = journey-carries j in omega arith
 
+-- Where every contact has its tick in 1 to τ, every journey departs in 1 to τ and arrives by τ + δ.
+pub journey-limits : {S : Contacts} {δ y b x a : ℕ} (τ : ℕ) → ((k : Contact) → S k → (1 ≤ k .tick) × (k .tick ≤ τ)) → JourneyTo S δ y b x a
+    → (1 ≤ a) × (a ≤ τ) × (b ≤ τ + δ)
+journey-limits τ f (single c e) = let h = f _ c in omega arith
+journey-limits τ f (onward z s c h j) = let k = f _ c in let r = journey-limits τ f j in omega arith
+
 reach-split : {S : Contacts} {δ y b x a : ℕ} → Reach S δ y b x a → (x ≡ y) ⊎ Within S δ x y (interval a b)
 reach-split (stay e h) = inl e
 reach-split {S} {δ} {y} {b} {x} {a} (step z s c h r) = go (reach-split r)

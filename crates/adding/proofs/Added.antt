@@ -1,0 +1,287 @@
+-- Adding as the loops do it is the rule: the words that they leave and the cells that they count.
+use mathlib.Core.Path.{_≡_, refl, sym, ap, ap₂, _∙_, subst}
+use mathlib.Core.Bool.{Bool, true, false, cond, not}
+use mathlib.Core.Option.{Option, none, some}
+use mathlib.Core.List.{List, [], _∷_, _++_, append-nil, List·Memᴰ}
+use Prim.Native.Nat.{ℕ, zero, suc, _+_, _-_, _*_, _≤_, _<_}
+use native.Mathlib.Omega.{arith}
+use native.Mathlib.Nat.{le-of-eq}
+use lib.ListN.{length, getD, take, drop, length-drop}
+use lib.Seq.{drop-drop, drop-length, take-all}
+use lib.Dec.{eqb}
+use Rattle.journeys.specs.Journey.{Contact, Interval, interval}
+use Rattle.journeys.specs.Cell.{Cell, Limits, latestDeparture, earliestArrival}
+use Rattle.journeys.specs.Adding.{Cells, departureOf, arrivalOf, enterBoth, add}
+use Rattle.rules.specs.Folds.{flat, sumBelow, countBelow}
+use Rattle.rules.specs.Layout.{tableLength, cellWords, tableWords, animals, ticks, carry, cellAt, cellOf, cellsOf}
+use Rattle.rules.specs.Opening.{Sizes}
+use Rattle.rules.specs.Checks.{Passes}
+use Rattle.rules.specs.Adding.{Legal, stands, sameCell, cellsChanged, addRefusal, addedCells, holds, addLeaves}
+use Rattle.rules.proofs.Folds.{flat-length, flat-same, sum-same, count-same}
+use Rattle.rules.proofs.Decode.{Good, cell-length}
+use Rattle.rules.proofs.Sound.{table-sizes, opens-first, opens-length, part-length, part-words, passes-good}
+use Rattle.rules.proofs.Judged.{add-iff}
+use Rattle.rules.proofs.Changes.{sameCell-refl}
+use Rattle.rules.proofs.Demand1.{added-good}
+use Rattle.parts.specs.Parts.{part, parts}
+use Rattle.parts.proofs.Flat.{parts-flat}
+use Rattle.cells.specs.Stored.{Stored, orZero}
+use Rattle.adding.specs.Steps.{cellIn, Body, departing, arriving, Listed, Below, tickOf, stepCell, stepAt, stepRow, movesBoth, moves, movesAt, rowMoves}
+use Rattle.adding.proofs.Places.{cell-of-row, body-rows, row-length}
+use Rattle.adding.proofs.Ticks.{Tick, tick-below, tick-again, tick-cond, latest-tick, earliest-tick}
+use Rattle.adding.proofs.Turns.{moves-both}
+
+-- ---- a table that passes its checks
+
+module _ (T : List ℕ) (p : Passes T) where
+  abbrev n : ℕ
+  n = animals T
+
+  abbrev τ : ℕ
+  τ = ticks T
+
+  abbrev δ : ℕ
+  δ = carry T
+
+  -- A cell among the words after the opening word is that of the table.
+  pub cell-in : (x y : ℕ) → cellIn n (τ + 1) (drop 1 T) x y ≡ cellAt n τ T x y
+  unfolding cellIn cellAt
+  cell-in x y = ap (take (τ + 1)) (drop-drop ((x * n + y) * (τ + 1)) 1 T)
+
+  -- The limits of the intervals of cell (x, y).
+  limits : (x y : ℕ) → x < n → y < n → (i : Interval) → List·Memᴰ i (cellsOf T x y) → Limits τ δ i
+  limits x y h k = passes-good T p .cells x y h k .limits
+
+  -- Each cell's words are as the functions on a cell ask.
+  cell-stored : (x y : ℕ) → x < n → y < n → Stored (cellAt n τ T x y)
+  unfolding cellsOf
+  cell-stored x y h k =
+      let e : length (cellAt n τ T x y) ≡ τ + 1 = part-length T p x y h k in
+      let z = table-sizes T in
+      let q : τ ≡ length (cellAt n τ T x y) - 1 = omega arith in
+      record {
+        words = part-words T p x y h k ∙ ap (λ (m : ℕ). cellWords m (cellsOf T x y)) q;
+        long = omega arith;
+        short = omega (arith, z .τ-high);
+        rising = passes-good T p .cells x y h k .rising;
+        departs = λ i m. limits x y h k i m .departs;
+        in-time = λ i m. let l = limits x y h k i m in omega (arith, l .in-time);
+        arrives = λ i m. let l = limits x y h k i m in omega (arith, l .arrives, z .τ-high, z .δ-high);
+      }
+
+  -- The words after the opening word, as the loops over them ask.
+  pub body-of : Body n (τ + 1) (drop 1 T)
+  body-of =
+      let z = table-sizes T in
+      record {
+        few = z .n-high;
+        long = length-drop 1 T ∙ omega (arith, opens-length T (p .opens));
+        short = omega (arith, z .τ-high);
+        cells = λ x y h k. subst Stored (sym (cell-in x y)) (cell-stored x y h k);
+      }
+
+-- ---- an add that no check refuses
+
+module _ (T : List ℕ) (k : Contact) (ok : addRefusal T k ≡ none) where
+  passes : Passes T
+  passes = add-iff T k .0 ok .0
+
+  legal : Legal (animals T) (ticks T) k
+  legal = add-iff T k .0 ok .1
+
+  abbrev m : ℕ
+  m = animals T
+
+  abbrev s : ℕ
+  s = ticks T + 1
+
+  abbrev body : List ℕ
+  body = drop 1 T
+
+  abbrev a : ℕ
+  a = k .tick + carry T
+
+  -- Whether the contact is known.
+  pub known-is : stands (interval (k .tick) a) (cellOf (cellIn m s body (k .from) (k .to))) ≡ holds T k
+  unfolding holds cellsOf
+  known-is = ap (λ (l : List ℕ). stands (interval (k .tick) a) (cellOf l)) (cell-in T passes (k .from) (k .to))
+
+  -- The departures and arrivals are those of the rule.
+  departure-is : (x : ℕ) → departing m s body (k .from) (k .tick) x ≡ orZero (departureOf (cellsOf T) k x)
+  unfolding departing departureOf cellsOf
+  departure-is x = ap (λ (l : List ℕ). orZero (cond (eqb x (k .from)) (some (k .tick)) (latestDeparture (cellOf l) (k .tick)))) (cell-in T passes x (k .from))
+
+  arrival-is : (y : ℕ) → arriving m s body (k .to) a y ≡ orZero (arrivalOf (carry T) (cellsOf T) k y)
+  unfolding arriving arrivalOf cellsOf
+  arrival-is y = ap (λ (l : List ℕ). orZero (cond (eqb y (k .to)) (some a) (earliestArrival (cellOf l) a))) (cell-in T passes (k .to) y)
+
+  -- They lie within their limits.
+  departure-tick : (x : ℕ) → x < m → Tick s (departureOf (cellsOf T) k x)
+  unfolding departureOf
+  departure-tick x h =
+      tick-cond s (eqb x (k .from)) (some (k .tick)) (latestDeparture (cellsOf T x (k .from)) (k .tick))
+      (omega (arith, legal .from-one, legal .to-last))
+      (latest-tick s (k .tick) (cellsOf T x (k .from)) (λ i q. let l = limits T passes x (k .from) h (legal .from-below) i q in omega (arith, l .departs, l .in-time)))
+
+  arrival-tick : (y : ℕ) → y < m → Tick 2048 (arrivalOf (carry T) (cellsOf T) k y)
+  unfolding arrivalOf
+  arrival-tick y h =
+      let z = table-sizes T in
+      tick-cond 2048 (eqb y (k .to)) (some a) (earliestArrival (cellsOf T (k .to) y) a)
+      (omega (arith, legal .from-one, legal .to-last, z .τ-high, z .δ-high))
+      (earliest-tick 2048 a (cellsOf T (k .to) y)
+      (λ i q. let l = limits T passes (k .to) y (legal .to-below) h i q in omega (arith, l .departs, l .carried, l .arrives, z .τ-high, z .δ-high)))
+
+  module _ (d e : List ℕ) (hd : Listed m (departing m s body (k .from) (k .tick)) d) (he : Listed m (arriving m s body (k .to) a) e) where
+    pub departures-below : Below m s d
+    departures-below x h = rw (hd x h, departure-is x) (tick-below s (departureOf (cellsOf T) k x) (omega arith) (departure-tick x h))
+
+    pub arrivals-below : Below m 2048 e
+    arrivals-below y h = rw (he y h, arrival-is y) (tick-below 2048 (arrivalOf (carry T) (cellsOf T) k y) (omega arith) (arrival-tick y h))
+
+    departure-read : (x : ℕ) → x < m → tickOf (getD d x 0) ≡ departureOf (cellsOf T) k x
+    departure-read x h = ap tickOf (hd x h ∙ departure-is x) ∙ tick-again s (departureOf (cellsOf T) k x) (departure-tick x h)
+
+    arrival-read : (y : ℕ) → y < m → tickOf (getD e y 0) ≡ arrivalOf (carry T) (cellsOf T) k y
+    arrival-read y h = ap tickOf (he y h ∙ arrival-is y) ∙ tick-again 2048 (arrivalOf (carry T) (cellsOf T) k y) (arrival-tick y h)
+
+    -- A cell of a row is that of the table.
+    cell-at : (x y : ℕ) → y < m → part s y (part (m * s) x body) ≡ cellAt m (ticks T) T x y
+    cell-at x y h = cell-of-row m s x y body h ∙ cell-in T passes x y
+
+    cell-is : (x y : ℕ) → cellOf (cellAt m (ticks T) T x y) ≡ cellsOf T x y
+    unfolding cellsOf
+    cell-is x y = refl
+
+    -- ---- the words
+
+    -- The words of cell (x, y) become those of the cell that the rule leaves.
+    step-is : (x y : ℕ) → x < m → y < m → stepAt x (getD d x 0) e y (part s y (part (m * s) x body)) ≡ cellWords (ticks T) (addedCells T k x y)
+    unfolding stepAt stepCell addedCells add
+    step-is x y h j =
+        let l : length (cellAt m (ticks T) T x y) - 1 ≡ ticks T = omega (arith, part-length T passes x y h j) in
+        rw (cell-at x y j, departure-read x h, arrival-read y j, l) (go (eqb x y))
+      where
+        go : (b : Bool)
+            → cond b (cellAt m (ticks T) T x y) (cellWords (ticks T) (enterBoth (departureOf (cellsOf T) k x) (arrivalOf (carry T) (cellsOf T) k y) (cellOf (cellAt m (ticks T) T x y))))
+            ≡ cellWords (ticks T) (cond b (cellsOf T x y) (enterBoth (departureOf (cellsOf T) k x) (arrivalOf (carry T) (cellsOf T) k y) (cellsOf T x y)))
+        go true = part-words T passes x y h j
+        go false = ap (λ (c : Cell). cellWords (ticks T) (enterBoth (departureOf (cellsOf T) k x) (arrivalOf (carry T) (cellsOf T) k y) c)) (cell-is x y)
+
+    added-length : (x y : ℕ) → x < m → y < m → length (cellWords (ticks T) (addedCells T k x y)) ≡ s
+    added-length x y h j = let z = table-sizes T in cell-length (ticks T) (carry T) (z .τ-high) (z .δ-high) (addedCells T k x y) (added-good T k ok .cells x y h j)
+
+    step-length : (x y : ℕ) → x < m → y < m → length (stepAt x (getD d x 0) e y (part s y (part (m * s) x body))) ≡ s
+    step-length x y h j = ap length (step-is x y h j) ∙ added-length x y h j
+
+    row-is : (x : ℕ) → x < m → stepRow m s d e x (part (m * s) x body) ≡ flat (λ y. cellWords (ticks T) (addedCells T k x y)) m
+    unfolding stepRow
+    row-is x h =
+        parts-flat (stepAt x (getD d x 0) e) s (part (m * s) x body) m (row-length m s body (body-of T passes) x h) (λ y j. step-length x y h j)
+        ∙ flat-same _ _ m (λ y j. step-is x y h j)
+
+    row-made : (x : ℕ) → x < m → length (stepRow m s d e x (part (m * s) x body)) ≡ m * s
+    row-made x h = ap length (row-is x h) ∙ flat-length _ s m (λ y j. added-length x y h j)
+
+    -- The words after the opening word become those that the rule leaves.
+    body-is : parts (stepRow m s d e) (m * s) m body ≡ flat (λ x. flat (λ y. cellWords (ticks T) (addedCells T k x y)) m) m
+    body-is = parts-flat (stepRow m s d e) (m * s) body m (body-rows m s body (body-of T passes)) row-made ∙ flat-same _ _ m row-is
+
+    first-only : (l : List ℕ) → 1 ≤ length l → take 1 l ≡ getD l 0 0 ∷ []
+    first-only [] h = absurd (omega arith)
+    first-only (w ∷ l) h = refl
+
+    -- The table's words afterwards, where the words after the opening word were lent.
+    pub leaves-is : (new : List ℕ) → new ≡ parts (stepRow m s d e) (m * s) m body → take 1 T ++ (new ++ drop (length T - 1) (drop 1 T)) ≡ addLeaves T k
+    unfolding addLeaves tableWords
+    leaves-is new q =
+        rw ok
+        (ap₂ _++_ (first-only T (omega (arith, opens-length T (passes .opens))))
+        (ap (λ (i : ℕ). new ++ drop i body) (sym (length-drop 1 T)) ∙ ap (λ (r : List ℕ). new ++ r) (drop-length body) ∙ append-nil new)
+        ∙ ap₂ _∷_ (sym (opens-first T (passes .opens))) (q ∙ body-is))
+
+    -- ---- the count
+
+    moves-is : (x y : ℕ) → x < m → y < m → movesAt s x (getD d x 0) e (part (m * s) x body) y ≡ not (sameCell (cellsOf T x y) (addedCells T k x y))
+    unfolding movesAt moves addedCells add
+    moves-is x y h j = rw (cell-at x y j, departure-read x h, arrival-read y j) (go (eqb x y))
+      where
+        go : (b : Bool)
+            → cond b false (movesBoth (departureOf (cellsOf T) k x) (arrivalOf (carry T) (cellsOf T) k y) (cellOf (cellAt m (ticks T) T x y)))
+            ≡ not (sameCell (cellsOf T x y) (cond b (cellsOf T x y) (enterBoth (departureOf (cellsOf T) k x) (arrivalOf (carry T) (cellsOf T) k y) (cellsOf T x y))))
+        go true = ap not (sym (sameCell-refl (cellsOf T x y)))
+        go false =
+            ap (movesBoth (departureOf (cellsOf T) k x) (arrivalOf (carry T) (cellsOf T) k y)) (cell-is x y)
+            ∙ moves-both (departureOf (cellsOf T) k x) (arrivalOf (carry T) (cellsOf T) k y) (cellsOf T x y)
+
+    -- The cells that change are those that the rule changes.
+    pub count-is : sumBelow (rowMoves m s d e body) m ≡ cellsChanged m (cellsOf T) (addedCells T k)
+    unfolding rowMoves cellsChanged
+    count-is = sum-same _ _ m (λ x h. count-same _ _ m (λ y j. moves-is x y h j))
+
+-- ---- as the code reads the numbers and lends the words
+
+-- What an accepted add says of the numbers.
+pub record Accepted (T : List ℕ) (k : Contact) : Type 0 where
+  pub long : 1 ≤ length T
+  pub from-below : k .from < animals T
+  pub to-below : k .to < animals T
+  pub tick-small : k .tick ≤ 1024
+  pub carry-small : carry T ≤ 256
+
+pub accepted : (T : List ℕ) (k : Contact) → addRefusal T k ≡ none → Accepted T k
+accepted T k ok =
+    let p = passes T k ok in
+    let l = legal T k ok in
+    let z = table-sizes T in
+    record {
+      long = omega (arith, opens-length T (p .opens));
+      from-below = l .from-below;
+      to-below = l .to-below;
+      tick-small = omega (arith, l .to-last, z .τ-high);
+      carry-small = z .δ-high;
+    }
+
+-- All words after the first, as they are lent.
+pub body-lent : (T : List ℕ) → take (length T - 1) (drop 1 T) ≡ drop 1 T
+body-lent T = take-all (length T - 1) (drop 1 T) (le-of-eq (length-drop 1 T))
+
+-- The numbers read off the table, and the words after the first as they are lent.
+pub record Read (T : List ℕ) (k : Contact) (n s a : ℕ) (lent : List ℕ) : Type 0 where
+  pub animals-is : n ≡ animals T
+  pub size-is : s ≡ ticks T + 1
+  pub arrival-is : a ≡ k .tick + carry T
+  pub lent-is : lent ≡ drop 1 T
+
+module _ (T : List ℕ) (k : Contact) (ok : addRefusal T k ≡ none) {n s a : ℕ} {lent : List ℕ} (r : Read T k n s a lent) where
+  -- What holds of the table's numbers and words holds of those read.
+  as-read : (P : ℕ → ℕ → ℕ → List ℕ → Type 0) → P (animals T) (ticks T + 1) (k .tick + carry T) (drop 1 T) → P n s a lent
+  as-read P h = rw (r .animals-is, r .size-is, r .arrival-is, r .lent-is) h
+
+  pub read-body : Body n s lent
+  read-body = as-read (λ n s a l. Body n s l) (body-of T (passes T k ok))
+
+  pub read-known : {b : Bool} → b ≡ stands (interval (k .tick) a) (cellOf (cellIn n s lent (k .from) (k .to))) → b ≡ holds T k
+  read-known {b} = as-read (λ n s a l. b ≡ stands (interval (k .tick) a) (cellOf (cellIn n s l (k .from) (k .to))) → b ≡ holds T k) (λ q. q ∙ known-is T k ok)
+
+  module _ (d e : List ℕ) where
+    pub read-below : Listed n (departing n s lent (k .from) (k .tick)) d → Listed n (arriving n s lent (k .to) a) e → Below n s d × Below n 2048 e
+    read-below =
+        as-read (λ n s a l. Listed n (departing n s l (k .from) (k .tick)) d → Listed n (arriving n s l (k .to) a) e → Below n s d × Below n 2048 e)
+        (λ hd he. (departures-below T k ok d e hd he, arrivals-below T k ok d e hd he))
+
+    pub read-count : {c : ℕ} → Listed n (departing n s lent (k .from) (k .tick)) d → Listed n (arriving n s lent (k .to) a) e
+        → c ≡ sumBelow (rowMoves n s d e lent) n → c ≡ cellsChanged (animals T) (cellsOf T) (addedCells T k)
+    read-count {c} =
+        as-read
+        (λ n s a l. Listed n (departing n s l (k .from) (k .tick)) d → Listed n (arriving n s l (k .to) a) e
+        → c ≡ sumBelow (rowMoves n s d e l) n → c ≡ cellsChanged (animals T) (cellsOf T) (addedCells T k))
+        (λ hd he q. q ∙ count-is T k ok d e hd he)
+
+    pub read-leaves : (new : List ℕ) → Listed n (departing n s lent (k .from) (k .tick)) d → Listed n (arriving n s lent (k .to) a) e
+        → new ≡ parts (stepRow n s d e) (n * s) n lent → take 1 T ++ (new ++ drop (length T - 1) (drop 1 T)) ≡ addLeaves T k
+    read-leaves new =
+        as-read
+        (λ n s a l. Listed n (departing n s l (k .from) (k .tick)) d → Listed n (arriving n s l (k .to) a) e
+        → new ≡ parts (stepRow n s d e) (n * s) n l → take 1 T ++ (new ++ drop (length T - 1) (drop 1 T)) ≡ addLeaves T k)
+        (λ hd he. leaves-is T k ok d e hd he new)

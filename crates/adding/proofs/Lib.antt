@@ -1,0 +1,4 @@
+pub mod Places
+pub mod Ticks
+pub mod Turns
+pub mod Added

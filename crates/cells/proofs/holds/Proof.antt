@@ -1,0 +1,88 @@
+-- `cells::holds` meets its contract: the only row that can be [d, a] is the first that departs at or after d. Assumes nothing.
+use native.Mathlib.Omega.{arith}
+use borrow.Author.Needs.{needs}
+use mathlib.Core.Path.{sym}
+use Rattle.cells.specs.Stored.{departureOf}
+use Rattle.cells.proofs.Lent.{Found, lent-rising, found-below, found-within, stands-zero, stands-other, stands-apart, stands-here}
+use Rattle.cells.proofs.holds.Statement.{statement}
+use Rattle.cells.proofs.holds.Tie as tie
+
+rows-end-requires : tie.Need-rows-end-requires
+rows-end-requires c κs = search needs
+
+sub-first-from : tie.Need-sub-first-from
+sub-first-from c = search needs
+
+part-first-from-start : tie.Need-part-first-from-start
+part-first-from-start c = search needs
+
+part-first-from-end : tie.Need-part-first-from-end
+part-first-from-end c = search needs
+
+first-from-requires : tie.Need-first-from-requires
+first-from-requires c κs =
+    let s = c .before .before .before in
+    lent-rising (s .args .cell .now) (c .before .rows-end .result) (s .pre) (c .before .rows-end .ensures .0)
+
+-- What the search found.
+found : (c : tie.After-first-from)
+    → Found departureOf (c .before .before .before .before .args .d) (c .before .before .before .before .args .cell .now)
+    (c .before .before .rows-end .result) (c .first-from .result)
+found c =
+    record {
+      stored = c .before .before .before .before .pre;
+      lent = c .before .before .rows-end .ensures .0;
+      place = c .first-from .ensures;
+    }
+
+add-at : tie.Need-add-at
+add-at c = let g = found c in omega (arith, found-below g)
+
+returns : tie.Need-returns
+returns c = sym (stands-zero (found (c .before)) _ (omega arith))
+
+mul-w : tie.Need-mul-w
+mul-w c = let g = found (c .before) in omega (arith, found-below g, found-within g)
+
+shared-slice-read-w : tie.Need-shared-slice-read-w
+shared-slice-read-w c = let g = found (c .before .before) in omega (arith, found-below g, found-within g)
+
+departure-of-requires : tie.Need-departure-of-requires
+departure-of-requires c κs = search needs
+
+returns-2 : tie.Need-returns-2
+returns-2 c =
+    let f = c .before .before .before in
+    sym (stands-other (found (f .before)) _ (λ z. omega arith) (λ z. omega arith))
+
+arrival-of-requires : tie.Need-arrival-of-requires
+arrival-of-requires c κs = search needs
+
+returns-3 : tie.Need-returns-3
+returns-3 c =
+    let f = c .before .before .before .before .before in
+    sym (stands-apart (found (f .before)) _ (λ z. omega arith) (omega arith) (λ z. omega arith))
+
+returns-4 : tie.Need-returns-4
+returns-4 c =
+    let f = c .before .before .before .before .before in
+    sym (stands-here (found (f .before)) _ (λ z. omega arith) (omega arith) (omega arith))
+
+pub holds-spec : {M : Type 1} → statement M
+holds-spec =
+    tie.close
+    (tie.spec
+    rows-end-requires
+    sub-first-from
+    part-first-from-start
+    part-first-from-end
+    first-from-requires
+    add-at
+    returns
+    mul-w
+    shared-slice-read-w
+    departure-of-requires
+    returns-2
+    arrival-of-requires
+    returns-3
+    returns-4)

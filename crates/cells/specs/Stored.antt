@@ -1,0 +1,38 @@
+-- One cell in lent memory: what the functions on it ask, what a search finds, and how a missing tick is said.
+use Prim.Native.Nat.{ℕ, suc, _-_, _≤_, _<_}
+use mathlib.Core.Path.{_≡_}
+use mathlib.Core.Bool.{cond}
+use mathlib.Core.Option.{Option, none, some}
+use mathlib.Core.List.{List, [], _∷_, List·Memᴰ}
+use lib.ListN.{length}
+use lib.Dec.{ltb}
+use Rattle.journeys.specs.Journey.{Interval}
+use Rattle.journeys.specs.Cell.{Cell, Rising}
+use Rattle.rules.specs.Layout.{cellWords, cellOf}
+
+-- The words are those of a rising cell with departures from 1 to the number of its rows and ends of 11 bits.
+pub record Stored (xs : List ℕ) : Type 0 where
+  pub words : xs ≡ cellWords (length xs - 1) (cellOf xs)
+  pub long : 1 ≤ length xs
+  pub short : length xs ≤ 1025
+  pub rising : Rising (cellOf xs)
+  pub departs : (i : Interval) → List·Memᴰ i (cellOf xs) → 1 ≤ i .departure
+  pub in-time : (i : Interval) → List·Memᴰ i (cellOf xs) → i .departure < length xs
+  pub arrives : (i : Interval) → List·Memᴰ i (cellOf xs) → i .arrival < 2048
+
+-- The two ends of an interval, as functions.
+abbrev pub departureOf : Interval → ℕ
+departureOf i = i .departure
+
+abbrev pub arrivalOf : Interval → ℕ
+arrivalOf i = i .arrival
+
+-- How many intervals at the front of the cell have their end f below t.
+unfoldable pub frontBelow : (Interval → ℕ) → ℕ → Cell → ℕ
+frontBelow f t [] = 0
+frontBelow f t (i ∷ c) = cond (ltb (f i) t) (suc (frontBelow f t c)) 0
+
+-- A tick, or 0 where there is none; ticks begin at 1.
+abbrev pub orZero : Option ℕ → ℕ
+orZero none = 0
+orZero (some t) = t

@@ -1,0 +1,58 @@
+// The parts of the check of a cell: a row, the rows in use, and the unused words.
+ghost use mathlib.Core.Path.{_≡_};
+ghost use Prim.Native.Nat.{_≤_};
+ghost use Rattle.rules.specs.Checks.{fineRow, fineRows, allUnused};
+
+// Whether the word is an interval in its limits that departs after p and arrives after q. An arrival from departure +
+// carry to ticks + carry has a departure of at most ticks.
+fn row_fine(w: u32, ticks: u32, carry: u32, p: u32, q: u32) -> bool
+    requires { ⌜ (ticks ≤ 1024) × (carry ≤ 256) ⌝ }
+    ensures { λ r. ⌜ r ≡ fineRow ticks carry p q w ⌝ }
+{
+    let d = words::departure_of(w);
+    let a = words::arrival_of(w);
+    if !words::is_interval(w) {
+        return false;
+    }
+    if d <= p {
+        return false;
+    }
+    if a <= q {
+        return false;
+    }
+    if a < d + carry {
+        return false;
+    }
+    a < ticks + carry + 1
+}
+
+// Whether the rows are intervals in their limits whose departures and arrivals rise.
+pub(crate) fn rows_fine(rows: &[u32], ticks: u32, carry: u32) -> bool
+    requires { ⌜ (ticks ≤ 1024) × (carry ≤ 256) ⌝ }
+    ensures { λ r. ⌜ r ≡ fineRows ticks carry 0 0 (now (rows .entry)) ⌝ }
+{
+    let mut p = 0;
+    let mut q = 0;
+    let mut i = 0;
+    while i < rows.len() {
+        let w = rows[i];
+        if !row_fine(w, ticks, carry, p, q) {
+            return false;
+        }
+        p = words::departure_of(w);
+        q = words::arrival_of(w);
+        i += 1;
+    }
+    true
+}
+
+// Whether every word is unused: their bits are joined, and the result is tested once.
+pub(crate) fn all_unused(rest: &[u32]) -> bool
+    ensures { λ r. ⌜ r ≡ allUnused (now (rest .entry)) ⌝ }
+{
+    let mut joined = 0;
+    for i in 0..rest.len() {
+        joined = joined | rest[i];
+    }
+    words::is_unused(joined)
+}

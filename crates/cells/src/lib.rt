@@ -1,0 +1,125 @@
+// One cell in lent memory: the check of a cell, and the search for a row.
+mod check;
+
+ghost use mathlib.Core.Path.{_≡_};
+ghost use Prim.Native.Nat.{_+_, _≤_};
+ghost use mathlib.Core.List.{map};
+ghost use lib.ListN.{length, getD};
+ghost use Rattle.journeys.specs.Journey.{interval};
+ghost use Rattle.journeys.specs.Cell.{Rising, latestDeparture, earliestArrival};
+ghost use Rattle.words.specs.Layout.{get};
+ghost use Rattle.words.specs.Words.{rowsField, intervalOf};
+ghost use Rattle.rules.specs.Layout.{cellOf};
+ghost use Rattle.rules.specs.Checks.{fineCell};
+ghost use Rattle.rules.specs.Adding.{stands};
+ghost use Rattle.cells.specs.Stored.{Stored, departureOf, arrivalOf, frontBelow, orZero};
+
+// The first of the rows that departs at or after t: the number of rows before it.
+pub fn first_from(rows: &[u32], t: u32) -> usize
+    requires { ⌜ Rising (map intervalOf (now rows)) ⌝ }
+    ensures { λ r. ⌜ r ≡ frontBelow departureOf t (map intervalOf (now (rows .entry))) ⌝ }
+{
+    let mut lo = 0;
+    let mut hi = rows.len();
+    while lo < hi {
+        let mid = lo + (hi - lo) / 2;
+        if words::departure_of(rows[mid]) < t {
+            lo = mid + 1;
+        } else {
+            hi = mid;
+        }
+    }
+    lo
+}
+
+// The number of rows that arrive by t; they stand at the front.
+pub fn arrived_by(rows: &[u32], t: u32) -> usize
+    requires { ⌜ Rising (map intervalOf (now rows)) ⌝ }
+    ensures { λ r. ⌜ r ≡ frontBelow arrivalOf (t + 1) (map intervalOf (now (rows .entry))) ⌝ }
+{
+    let mut least = 0;
+    let mut most = rows.len();
+    while least < most {
+        let mid = least + (most - least) / 2;
+        if words::arrival_of(rows[mid]) <= t {
+            least = mid + 1;
+        } else {
+            most = mid;
+        }
+    }
+    least
+}
+
+// The index in the cell after its rows in use.
+fn rows_end(cell: &[u32]) -> usize
+    requires { ⌜ Stored (now cell) ⌝ }
+    ensures { λ r. ⌜ (r ≡ get rowsField (getD (now (cell .entry)) 0 0) + 1) × (r ≤ length (now (cell .entry))) ⌝ }
+{
+    words::rows_of(cell[0]) as usize + 1
+}
+
+// The latest departure in the cell with arrival at most t, or 0 where there is none.
+pub fn latest_departure(cell: &[u32], t: u32) -> u32
+    requires { ⌜ Stored (now cell) ⌝ }
+    ensures { λ r. ⌜ r ≡ orZero (latestDeparture (cellOf (now (cell .entry))) t) ⌝ }
+{
+    let end = rows_end(cell);
+    let last = arrived_by(&cell[1..end], t);
+    if last == 0 {
+        return 0;
+    }
+    words::departure_of(cell[last])
+}
+
+// The earliest arrival in the cell with departure at least t, or 0 where there is none.
+pub fn earliest_arrival(cell: &[u32], t: u32) -> u32
+    requires { ⌜ Stored (now cell) ⌝ }
+    ensures { λ r. ⌜ r ≡ orZero (earliestArrival (cellOf (now (cell .entry))) t) ⌝ }
+{
+    let end = rows_end(cell);
+    let first = first_from(&cell[1..end], t) + 1;
+    if first == end {
+        return 0;
+    }
+    words::arrival_of(cell[first])
+}
+
+// Whether [d, a] stands in the cell.
+pub fn holds(cell: &[u32], d: u32, a: u32) -> bool
+    requires { ⌜ Stored (now cell) ⌝ }
+    ensures { λ r. ⌜ r ≡ stands (interval d a) (cellOf (now (cell .entry))) ⌝ }
+{
+    let end = rows_end(cell);
+    let at = first_from(&cell[1..end], d) + 1;
+    if at == end {
+        return false;
+    }
+    let w = cell[at];
+    if words::departure_of(w) != d {
+        return false;
+    }
+    if words::arrival_of(w) != a {
+        return false;
+    }
+    true
+}
+
+// Whether the words are a well-formed cell with at most `most` rows in use.
+pub fn is_fine(cell: &[u32], ticks: u32, carry: u32, most: u32) -> bool
+    requires { ⌜ (most + 1 ≤ length (now cell)) × (ticks ≤ 1024) × (carry ≤ 256) × (most ≤ 1024) ⌝ }
+    ensures { λ r. ⌜ r ≡ fineCell ticks carry most (now (cell .entry)) ⌝ }
+{
+    let w = cell[0];
+    if !words::is_count(w) {
+        return false;
+    }
+    let rows = words::rows_of(w);
+    if most < rows {
+        return false;
+    }
+    let end = rows as usize + 1;
+    if !check::rows_fine(&cell[1..end], ticks, carry) {
+        return false;
+    }
+    check::all_unused(&cell[end..])
+}

@@ -1,0 +1,4 @@
+pub mod Front
+pub mod Splice
+pub mod Replace
+pub mod Entered

@@ -1,0 +1,34 @@
+// An interval enters a cell in lent memory.
+mod moves;
+mod places;
+
+ghost use mathlib.Core.Path.{_≡_};
+ghost use mathlib.Core.Bool.{not};
+ghost use Prim.Native.Nat.{_-_, _<_, _≤_};
+ghost use lib.ListN.{length};
+ghost use Rattle.journeys.specs.Journey.{interval};
+ghost use Rattle.journeys.specs.Cell.{hasInside, enter};
+ghost use Rattle.rules.specs.Layout.{cellWords, cellOf};
+ghost use Rattle.cells.specs.Stored.{Stored};
+
+// [d, a] enters the cell; the answer says whether the cell changed.
+pub fn enters(cell: &mut [u32], d: u32, a: u32) -> bool
+    requires { ⌜ Stored (now cell) ⌝ }
+    requires { ⌜ (1 ≤ d) × (d < length (now cell)) × (a < 2048) ⌝ }
+    ensures { λ r. ⌜ r ≡ not (hasInside (interval d a) (cellOf (now (cell .entry)))) ⌝ }
+    ensures { λ _. ⌜ now (cell .exit) ≡ cellWords (length (now (cell .entry)) - 1) (enter (interval d a) (cellOf (now (cell .entry)))) ⌝ }
+{
+    let n = words::rows_of(cell[0]) as usize;
+    let end = n + 1;
+    let place = places::find(&cell[1..end], d, a);
+    if place.met {
+        return false;
+    }
+    let lo = place.lo;
+    let hi = place.hi;
+    let w = words::interval_word(d, a);
+    moves::replace(&mut cell[1..], lo, hi, n, w);
+    let rows = lo + 1 + (n - hi);
+    cell[0] = words::count_word(rows as u32);
+    true
+}

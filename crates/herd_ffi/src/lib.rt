@@ -1,0 +1,63 @@
+// The C interface of the engine, for the Rust herd program. A slice is a pointer and a length in words. The reply's upper
+// 32 bits say which answer, the lower 32 its number: 0 is a refusal with its number; 1 and 2 are the answers of the call.
+ghost use mathlib.Core.Path.{_≡_};
+ghost use Prim.Native.Nat.{_<_};
+ghost use Rattle.journeys.specs.Journey.{contact};
+ghost use Rattle.rules.specs.Answers.{numberOf, reply, openReply, addReply};
+ghost use Rattle.rules.specs.Opening.{openAnswer, openLeaves};
+ghost use Rattle.rules.specs.Adding.{addAnswer, addLeaves};
+use rules::AddAnswer;
+use rules::OpenAnswer;
+use rules::Refusal;
+
+// Document 01's number of a refusal.
+fn number_of(refusal: Refusal) -> u32
+    ensures { λ r. ⌜ r ≡ numberOf refusal ⌝ }
+{
+    match refusal {
+        Refusal::AnimalsBeyondLimit => 1,
+        Refusal::TicksBeyondLimit => 2,
+        Refusal::CarryBeyondLimit => 3,
+        Refusal::WrongLength => 4,
+        Refusal::NotOpen => 5,
+        Refusal::NotWellFormed => 6,
+        Refusal::NoSuchAnimal => 7,
+        Refusal::SameAnimal => 8,
+        Refusal::TickOutOfRange => 9,
+        Refusal::LogBufferTooShort => 15,
+    }
+}
+
+// A reply: which answer, and its number.
+fn reply_of(which: u32, number: u32) -> u64
+    ensures { λ r. ⌜ r ≡ reply which number ⌝ }
+{
+    which as u64 * 0x1_0000_0000 + number as u64
+}
+
+// Opens a table: 1 opened, 0 refused.
+#[no_mangle]
+pub extern "C" fn herd_open(table: &mut [u32], animals: u32, ticks: u32, carry: u32) -> u64
+    ensures { λ r. ⌜ r ≡ openReply (openAnswer animals ticks carry (now (table .entry))) ⌝ }
+    ensures { λ _. ⌜ now (table .exit) ≡ openLeaves animals ticks carry (now (table .entry)) ⌝ }
+{
+    let answer = engine::open_table(table, animals, ticks, carry);
+    match answer {
+        OpenAnswer::Opened => reply_of(1, 0),
+        OpenAnswer::Refused(r) => reply_of(0, number_of(r)),
+    }
+}
+
+// Adds a contact: 1 new, 2 known, each with the number of cells changed, 0 refused.
+#[no_mangle]
+pub extern "C" fn herd_add(table: &mut [u32], u: u32, v: u32, t: u32) -> u64
+    ensures { λ r. ⌜ r ≡ addReply (addAnswer (now (table .entry)) (contact u v t)) ⌝ }
+    ensures { λ _. ⌜ now (table .exit) ≡ addLeaves (now (table .entry)) (contact u v t) ⌝ }
+{
+    let answer = engine::add_contact(table, u, v, t);
+    match answer {
+        AddAnswer::New(k) => reply_of(1, k),
+        AddAnswer::Known(k) => reply_of(2, k),
+        AddAnswer::Refused(r) => reply_of(0, number_of(r)),
+    }
+}

@@ -1,0 +1,148 @@
+-- Demand 1 holds of the rules.
+use mathlib.Core.Path.{_≡_, refl, sym, ap, _∙_, subst}
+use mathlib.Core.Bool.{Bool, true, false, cond}
+use mathlib.Core.Option.{Option, none, some}
+use mathlib.Core.List.{List, [], _∷_, _++_, map}
+use Prim.Native.Nat.{ℕ, _+_, _≤_, _<_}
+use native.Mathlib.Omega.{arith}
+use lib.ListN.{length, getD, drop, length-append, length-map, length-drop}
+use lib.Dec.{leb}
+use borrow.Author.Tests.{leb-true}
+use Rattle.journeys.specs.Journey.{Contact}
+use Rattle.journeys.specs.Adding.{Cells, add}
+use Rattle.rules.specs.declared.Refusal.{Refusal}
+use Rattle.rules.specs.declared.OpenAnswer.{OpenAnswer}
+use Rattle.rules.specs.declared.OpenAnswer.the-variants.{Opened, Refused as OpenRefused}
+use Rattle.rules.specs.declared.AddAnswer.{AddAnswer}
+use Rattle.rules.specs.declared.AddAnswer.the-variants.{New, Known, Refused as AddRefused}
+use Rattle.rules.specs.declared.Refusal.the-variants.{NotOpen, NotWellFormed, LogBufferTooShort}
+use Rattle.rules.specs.declared.WriteAnswer.the-variants.{Written, Refused as WriteRefused}
+use Rattle.words.specs.Words.{contactWord, endWord}
+use Rattle.rules.specs.Answers.{unless, openAnswerOf, addAnswerOf, writeAnswerOf}
+use Rattle.rules.specs.Layout.{tableLength, tableWords, animals, ticks, carry, cellsOf}
+use Rattle.rules.specs.Checks.{isOpen, wellFormed, Passes}
+use Rattle.rules.specs.Opening.{openRefusal, openAnswer, openLeaves}
+use Rattle.rules.specs.Adding.{Legal, addRefusal, addedCells, holds, cellsChanged, addAnswer, addLeaves}
+use Rattle.rules.specs.Logs.{heldContacts, logWords, writeRefusal, writeAnswer, writeLeaves}
+use Rattle.rules.specs.Demand1.{Demand1}
+use Rattle.rules.proofs.Decode.{Good, table-length, table-passes}
+use Rattle.rules.proofs.Sound.{table-sizes, passes-good, opens-length}
+use Rattle.rules.proofs.Judged.{ensure-iff, open-iff, add-iff}
+use Rattle.rules.proofs.Fresh.{add-good, empty-good}
+
+-- ---- opening
+
+open-cases : (n τ δ : ℕ) (T : List ℕ) (P : Option Refusal → List ℕ → Type 0) → ((r : Refusal) → P (some r) T) → (openRefusal n τ δ T ≡ none → P none (tableWords n τ δ (λ u v. []))) → P (openRefusal n τ δ T) (openLeaves n τ δ T)
+unfolding openLeaves
+open-cases n τ δ T P a b = go (openRefusal n τ δ T) refl
+  where
+    go : (o : Option Refusal) → openRefusal n τ δ T ≡ o → P o (unless o (tableWords n τ δ (λ u v. [])) T)
+    go none e = b e
+    go (some r) e = a r
+
+open-opened : (o : Option Refusal) → openAnswerOf o ≡ Opened → o ≡ none
+open-opened none e = refl
+open-opened (some r) e = absurd (let z : _≡_ {A = ℕ} 0 1 = cc in omega arith)
+
+open-kept : (n τ δ : ℕ) (T : List ℕ) (r : Refusal) → openAnswer n τ δ T ≡ OpenRefused r → openLeaves n τ δ T ≡ T
+unfolding openAnswer
+open-kept n τ δ T r = open-cases n τ δ T (λ o L. openAnswerOf o ≡ OpenRefused r → L ≡ T) (λ s e. refl) (λ p e. absurd (let z : _≡_ {A = ℕ} 0 1 = cc in omega arith))
+
+open-length : (n τ δ : ℕ) (T : List ℕ) → length (openLeaves n τ δ T) ≡ length T
+open-length n τ δ T =
+    open-cases n τ δ T (λ o L. length L ≡ length T) (λ r. refl)
+    (λ e. let h = open-iff n τ δ T .0 e in table-length n τ δ (h .0) (λ u v. []) (empty-good n τ δ) ∙ sym (h .1))
+
+open-passes : (n τ δ : ℕ) (T : List ℕ) → openAnswer n τ δ T ≡ Opened → Passes (openLeaves n τ δ T)
+unfolding openAnswer
+open-passes n τ δ T =
+    open-cases n τ δ T (λ o L. openAnswerOf o ≡ Opened → Passes L) (λ r e. absurd (let z : _≡_ {A = ℕ} 0 1 = cc in omega arith))
+    (λ p e. table-passes n τ δ (open-iff n τ δ T .0 p .0) (λ u v. []) (empty-good n τ δ))
+
+-- ---- adding
+
+-- By cases: refused and as it was, or accepted and added.
+pub add-cases : (T : List ℕ) (k : Contact) (P : Option Refusal → List ℕ → Type 0) → ((r : Refusal) → addRefusal T k ≡ some r → P (some r) T)
+    → (addRefusal T k ≡ none → P none (tableWords (animals T) (ticks T) (carry T) (addedCells T k))) → P (addRefusal T k) (addLeaves T k)
+unfolding addLeaves
+add-cases T k P a b = go (addRefusal T k) refl
+  where
+    go : (o : Option Refusal) → addRefusal T k ≡ o → P o (unless o (tableWords (animals T) (ticks T) (carry T) (addedCells T k)) T)
+    go none e = b e
+    go (some r) e = a r e
+
+-- The cells that an accepted add leaves are well formed.
+pub added-good : (T : List ℕ) (k : Contact) → addRefusal T k ≡ none → Good (animals T) (ticks T) (carry T) (addedCells T k)
+unfolding addedCells
+added-good T k e = let h = add-iff T k .0 e in add-good (animals T) (ticks T) (carry T) (cellsOf T) k (h .1) (passes-good T (h .0))
+
+known-or-new : (b : Bool) (m : ℕ) (r : Refusal) → cond b (Known m) (New m) ≡ AddRefused r → ⊥
+known-or-new true m r e = let z : _≡_ {A = ℕ} 0 1 = cc in omega arith
+known-or-new false m r e = let z : _≡_ {A = ℕ} 0 1 = cc in omega arith
+
+add-accepted : (T : List ℕ) (k : Contact) (r : Refusal) → addAnswer T k ≡ AddRefused r → addRefusal T k ≡ none → ⊥
+unfolding addAnswer
+add-accepted T k r e n = known-or-new (holds T k) (cellsChanged (animals T) (cellsOf T) (addedCells T k)) r (rw n at e)
+
+add-kept : (T : List ℕ) (k : Contact) (r : Refusal) → addAnswer T k ≡ AddRefused r → addLeaves T k ≡ T
+add-kept T k r e = add-cases T k (λ o L. L ≡ T) (λ s p. refl) (λ p. absurd (add-accepted T k r e p))
+
+add-length : (T : List ℕ) (k : Contact) → length (addLeaves T k) ≡ length T
+add-length T k =
+    add-cases T k (λ o L. length L ≡ length T) (λ r p. refl)
+    (λ e. table-length (animals T) (ticks T) (carry T) (table-sizes T) (addedCells T k) (added-good T k e) ∙ sym (opens-length T (add-iff T k .0 e .0 .opens)))
+
+add-passes : (T : List ℕ) (k : Contact) → Passes T → Passes (addLeaves T k)
+add-passes T k p =
+    add-cases T k (λ o L. Passes L) (λ r e. p) (λ e. table-passes (animals T) (ticks T) (carry T) (table-sizes T) (addedCells T k) (added-good T k e))
+
+-- ---- writing a log
+
+write-cases : (T B : List ℕ) (P : Option Refusal → List ℕ → Type 0) → ((r : Refusal) → P (some r) B)
+    → (writeRefusal T B ≡ none → P none (logWords (getD T 0 0) (heldContacts T) ++ drop (length (heldContacts T) + 2) B)) → P (writeRefusal T B) (writeLeaves T B)
+unfolding writeLeaves
+write-cases T B P a b = go (writeRefusal T B) refl
+  where
+    go : (o : Option Refusal) → writeRefusal T B ≡ o → P o (unless o (logWords (getD T 0 0) (heldContacts T) ++ drop (length (heldContacts T) + 2) B) B)
+    go none e = b e
+    go (some r) e = a r
+
+write-kept : (T B : List ℕ) (r : Refusal) → writeAnswer T B ≡ WriteRefused r → writeLeaves T B ≡ B
+unfolding writeAnswer
+write-kept T B r = write-cases T B (λ o L. writeAnswerOf o (Written (length (heldContacts T) + 2)) ≡ WriteRefused r → L ≡ B) (λ s e. refl) (λ p e. absurd (let z : _≡_ {A = ℕ} 0 1 = cc in omega arith))
+
+-- A log of l has two words more than l has contacts.
+pub log-length : (w : ℕ) (l : List Contact) → length (logWords w l) ≡ length l + 2
+unfolding logWords
+log-length w l = let e = length-append (map contactWord l) (endWord (length l) ∷ []) in let m = length-map l contactWord in omega arith
+
+-- A log that is written fits its buffer.
+pub write-fits : (T B : List ℕ) → writeRefusal T B ≡ none → Passes T × (length (heldContacts T) + 2 ≤ length B)
+unfolding writeRefusal
+write-fits T B e =
+    let p = ensure-iff (isOpen T) NotOpen _ .0 e in
+    let q = ensure-iff (wellFormed T) NotWellFormed _ .0 (p .1) in
+    let r = ensure-iff (leb (length (heldContacts T) + 2) (length B)) LogBufferTooShort none .0 (q .1) in
+    (record { opens = p .0; formed = q .0 }, leb-true (length (heldContacts T) + 2) (length B) (r .0))
+
+write-length : (T B : List ℕ) → length (writeLeaves T B) ≡ length B
+write-length T B =
+    write-cases T B (λ o L. length L ≡ length B) (λ r. refl)
+    (λ e.
+    let h = write-fits T B e .1 in
+    let l = heldContacts T in
+    length-append (logWords (getD T 0 0) l) (drop (length l + 2) B) ∙ omega (arith, log-length (getD T 0 0) l, length-drop (length l + 2) B))
+
+pub demand1 : Demand1
+demand1 =
+    record {
+      open-refused = open-kept;
+      add-refused = add-kept;
+      write-refused = write-kept;
+      open-length = open-length;
+      add-length = add-length;
+      write-length = write-length;
+      open-passes = open-passes;
+      add-passes = add-passes;
+      legal-accepted = λ T k p l r e. add-accepted T k r e (add-iff T k .1 (p, l));
+    }

@@ -1,0 +1,155 @@
+-- Laws of lists, tests and sums over the numbers below n.
+use mathlib.Core.Path.{_≡_, refl, sym, ap, ap₂, _∙_, subst}
+use mathlib.Core.Logic.{_⊎_, inl, inr}
+use mathlib.Core.Bool.{Bool, true, false, cond, _&&_, and-eq-true-iff}
+use mathlib.Core.List.{List, [], _∷_, _++_, List·Memᴰ, List·Memᴰ·not-nil, Memᴰ·append-left, Memᴰ·append-right, List·Memᴰ·append-cases}
+use Prim.Native.Nat.{ℕ, zero, suc, _+_, _-_, _*_, _≤_, _<_}
+use native.Mathlib.Nat.{mul-le-mul-right, suc-mul, zero-mul, mul-assoc, add-mul, le-of-eq}
+use native.Mathlib.Omega.{arith}
+use lib.ListN.{length, take, drop, length-append, length-drop, take-append-drop}
+use lib.Seq.{take-all, take-append-le, drop-append-le, drop-at, drop-drop, take-add}
+use lib.Dec.{ltb}
+use Rattle.journeys.proofs.Tests.{Outcome, holds, fails, lt-outcome}
+use Rattle.rules.specs.Folds.{flat, allBelow, sumBelow, countBelow}
+
+-- ---- tests
+
+pub and-left : (a b : Bool) → (a && b) ≡ true → a ≡ true
+and-left a b e = and-eq-true-iff a b .0 e .0
+
+pub and-right : (a b : Bool) → (a && b) ≡ true → b ≡ true
+and-right a b e = and-eq-true-iff a b .0 e .1
+
+pub and-intro : (a b : Bool) → a ≡ true → b ≡ true → (a && b) ≡ true
+and-intro a b p q = and-eq-true-iff a b .1 (p, q)
+
+-- What holds below n and at n holds below n + 1.
+last-or-below : (P : ℕ → Type 0) (n k : ℕ) → k < suc n → (k < n → P k) → P n → P k
+last-or-below P n k h f e = go (lt-outcome k n)
+  where
+    go : {b : Bool} → Outcome (k < n) (n ≤ k) b → P k
+    go (holds o) = f o
+    go (fails o) = let z : n ≡ k = omega arith in subst P z e
+
+pub all-below : (p : ℕ → Bool) (n : ℕ) → ((k : ℕ) → k < n → p k ≡ true) → allBelow p n ≡ true
+unfolding allBelow
+all-below p zero e = refl
+all-below p (suc n) e = and-intro (allBelow p n) (p n) (all-below p n (λ k h. e k (omega arith))) (e n (omega arith))
+
+pub below-all : (p : ℕ → Bool) (n : ℕ) → allBelow p n ≡ true → (k : ℕ) → k < n → p k ≡ true
+unfolding allBelow
+below-all p zero e k h = absurd (omega arith)
+below-all p (suc n) e k h = last-or-below (λ i. p i ≡ true) n k h (below-all p n (and-left (allBelow p n) (p n) e) k) (and-right (allBelow p n) (p n) e)
+
+-- ---- lengths and parts
+
+-- The y-th of n parts of s words ends inside the n parts.
+pub part-inside : (y n s : ℕ) → y < n → y * s + s ≤ n * s
+part-inside y n s h = rw (← suc-mul y s) (mul-le-mul-right s h)
+
+pub flat-length : {A : Type 0} (f : ℕ → List A) (s n : ℕ) → ((k : ℕ) → k < n → length (f k) ≡ s) → length (flat f n) ≡ n * s
+unfolding flat
+flat-length f s zero e = sym (zero-mul s)
+flat-length f s (suc n) e =
+    length-append (flat f n) (f n) ∙ ap₂ _+_ (flat-length f s n (λ k h. e k (omega arith))) (e n (omega arith)) ∙ sym (suc-mul n s)
+
+-- The k-th part of a list made part by part.
+pub flat-part : {A : Type 0} (f : ℕ → List A) (s n : ℕ) → ((k : ℕ) → k < n → length (f k) ≡ s) → (k : ℕ) → k < n → take s (drop (k * s) (flat f n)) ≡ f k
+unfolding flat
+flat-part f s zero e k h = absurd (omega arith)
+flat-part f s (suc n) e k h = last-or-below (λ i. take s (drop (i * s) (flat f n ++ f n)) ≡ f i) n k h (λ o. before o (flat-part f s n (λ k h. e k (omega arith)) k o)) final
+  where
+    l : length (flat f n) ≡ n * s
+    l = flat-length f s n (λ k h. e k (omega arith))
+
+    before : k < n → take s (drop (k * s) (flat f n)) ≡ f k → take s (drop (k * s) (flat f n ++ f n)) ≡ f k
+    before o r =
+        let w = part-inside k n s o in
+        ap (take s) (drop-append-le (k * s) (flat f n) (f n) (omega (arith, l)))
+        ∙ take-append-le s (drop (k * s) (flat f n)) (f n) (omega (arith, l, length-drop (k * s) (flat f n))) ∙ r
+
+    final : take s (drop (n * s) (flat f n ++ f n)) ≡ f n
+    final = let q : length (f n) ≡ s = e n (omega arith) in ap (take s) (drop-at (flat f n) (f n) (n * s) l) ∙ take-all s (f n) (omega arith)
+
+pub flat-same : {A : Type 0} (f g : ℕ → List A) (n : ℕ) → ((k : ℕ) → k < n → f k ≡ g k) → flat f n ≡ flat g n
+unfolding flat
+flat-same f g zero e = refl
+flat-same f g (suc n) e = ap₂ _++_ (flat-same f g n (λ k h. e k (omega arith))) (e n (omega arith))
+
+-- The place of part (x, y) among n rows of n parts of s words.
+pub place-of : (x y n s : ℕ) → x * (n * s) + y * s ≡ (x * n + y) * s
+place-of x y n s = ap (λ (i : ℕ). i + y * s) (sym (mul-assoc x n s)) ∙ sym (add-mul (x * n) y s)
+
+-- Rows of parts.
+module _ {A : Type 0} (f : ℕ → ℕ → List A) (s n : ℕ) (e : (x y : ℕ) → x < n → y < n → length (f x y) ≡ s) where
+  row-length : (x : ℕ) → x < n → length (flat (f x) n) ≡ n * s
+  row-length x h = flat-length (f x) s n (λ y k. e x y h k)
+
+  pub body-length : length (flat (λ x. flat (f x) n) n) ≡ n * n * s
+  body-length = flat-length (λ x. flat (f x) n) (n * s) n row-length ∙ sym (mul-assoc n n s)
+
+  pub body-part : (x y : ℕ) → x < n → y < n → take s (drop ((x * n + y) * s) (flat (λ x. flat (f x) n) n)) ≡ f x y
+  body-part x y h k =
+      ap (λ (i : ℕ). take s (drop i b)) (sym (place-of x y n s))
+      ∙ ap (take s) (sym (drop-drop (y * s) (x * (n * s)) b))
+      ∙ ap (λ (l : List A). take s (drop (y * s) l)) (sym (take-append-drop (n * s) r) ∙ ap (λ (l : List A). l ++ drop (n * s) r) q)
+      ∙ ap (take s) (drop-append-le (y * s) (flat (f x) n) (drop (n * s) r) (omega (arith, w, row-length x h)))
+      ∙ take-append-le s (drop (y * s) (flat (f x) n)) (drop (n * s) r) (omega (arith, w, row-length x h, length-drop (y * s) (flat (f x) n)))
+      ∙ flat-part (f x) s n (λ y k. e x y h k) y k
+    where
+      b : List A
+      b = flat (λ x. flat (f x) n) n
+
+      r : List A
+      r = drop (x * (n * s)) b
+
+      w : y * s + s ≤ n * s
+      w = part-inside y n s k
+
+      q : take (n * s) r ≡ flat (f x) n
+      q = flat-part (λ x. flat (f x) n) (n * s) n row-length x h
+
+-- A list is its parts.
+take-parts : {A : Type 0} (s n : ℕ) (l : List A) → take (n * s) l ≡ flat (λ k. take s (drop (k * s) l)) n
+unfolding flat
+take-parts s zero l = ap (λ (i : ℕ). take i l) (zero-mul s)
+take-parts s (suc n) l = ap (λ (i : ℕ). take i l) (suc-mul n s) ∙ take-add (n * s) s l ∙ ap (λ (r : List _). r ++ take s (drop (n * s) l)) (take-parts s n l)
+
+pub body-parts : {A : Type 0} (s n : ℕ) (l : List A) → length l ≡ n * n * s → l ≡ flat (λ x. flat (λ y. take s (drop ((x * n + y) * s) l)) n) n
+body-parts {A} s n l e =
+    sym (take-all (n * (n * s)) l (le-of-eq (e ∙ mul-assoc n n s))) ∙ take-parts (n * s) n l ∙ flat-same _ _ n row
+  where
+    row : (x : ℕ) → x < n → take (n * s) (drop (x * (n * s)) l) ≡ flat (λ y. take s (drop ((x * n + y) * s) l)) n
+    row x h = take-parts s n (drop (x * (n * s)) l) ∙ flat-same _ _ n part
+      where
+        part : (y : ℕ) → y < n → take s (drop (y * s) (drop (x * (n * s)) l)) ≡ take s (drop ((x * n + y) * s) l)
+        part y k = ap (take s) (drop-drop (y * s) (x * (n * s)) l) ∙ ap (λ (i : ℕ). take s (drop i l)) (place-of x y n s)
+
+-- ---- members
+
+pub flat-member : {A : Type 0} {a : A} (f : ℕ → List A) (n k : ℕ) → k < n → List·Memᴰ a (f k) → List·Memᴰ a (flat f n)
+unfolding flat
+flat-member f zero k h m = absurd (omega arith)
+flat-member {A} {a} f (suc n) k h m =
+    last-or-below (λ i. List·Memᴰ a (f i) → List·Memᴰ a (flat f n ++ f n)) n k h (λ o q. Memᴰ·append-left (f n) (flat-member f n k o q)) (Memᴰ·append-right (flat f n)) m
+
+pub member-flat : {A : Type 0} {a : A} (f : ℕ → List A) (n : ℕ) → List·Memᴰ a (flat f n) → (k : ℕ) × (k < n) × List·Memᴰ a (f k)
+unfolding flat
+member-flat f zero m = absurd (List·Memᴰ·not-nil m)
+member-flat {A} {a} f (suc n) m = go (List·Memᴰ·append-cases (flat f n) m) (member-flat f n)
+  where
+    go : List·Memᴰ a (flat f n) ⊎ List·Memᴰ a (f n) → (List·Memᴰ a (flat f n) → (k : ℕ) × (k < n) × List·Memᴰ a (f k)) → (k : ℕ) × (k < suc n) × List·Memᴰ a (f k)
+    go (inl l) r = let q = r l in (q .0, omega (arith, q .1), q .2)
+    go (inr l) r = (n, omega arith, l)
+
+-- ---- sums
+
+pub sum-same : (f g : ℕ → ℕ) (n : ℕ) → ((k : ℕ) → k < n → f k ≡ g k) → sumBelow f n ≡ sumBelow g n
+unfolding sumBelow
+sum-same f g zero e = refl
+sum-same f g (suc n) e = ap₂ _+_ (sum-same f g n (λ k h. e k (omega arith))) (e n (omega arith))
+
+pub count-same : (p q : ℕ → Bool) (n : ℕ) → ((k : ℕ) → k < n → p k ≡ q k) → countBelow p n ≡ countBelow q n
+unfolding countBelow
+count-same p q zero e = refl
+count-same p q (suc n) e = ap₂ _+_ (count-same p q n (λ k h. e k (omega arith))) (ap (λ (b : Bool). cond b 1 0) (e n (omega arith)))

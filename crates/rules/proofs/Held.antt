@@ -1,0 +1,155 @@
+-- The contacts that a table holds: which they are, and that they are listed in order.
+use mathlib.Core.Path.{_≡_, refl, sym, ap, _∙_, subst}
+use mathlib.Core.Logic.{_↔_, _⊎_, inl, inr, ⊎-elim, _≢_}
+use mathlib.Core.Bool.{Bool, true, false, cond}
+use mathlib.Core.List.{List, [], _∷_, List·Memᴰ, List·Memᴰ·head, List·Memᴰ·tail, List·Memᴰ·not-nil}
+use Prim.Native.Nat.{ℕ, zero, suc, _+_, _-_, _≤_, _<_}
+use native.Mathlib.Decide.{ℕ-discrete}
+use native.Mathlib.Omega.{arith}
+use Rattle.journeys.specs.Journey.{Contact, contact, Contacts, interval}
+use Rattle.journeys.specs.Cell.{Cell}
+use Rattle.journeys.proofs.Tests.{Outcome, holds, fails}
+use Rattle.journeys.proofs.Theorems.{contacts-stand}
+use Rattle.rules.specs.Folds.{flat}
+use Rattle.rules.specs.Layout.{animals, ticks, carry, cellsOf}
+use Rattle.rules.specs.Adding.{stands}
+use Rattle.rules.specs.Adding as Adding
+use Rattle.rules.specs.Logs.{held, heldContacts}
+use Rattle.rules.specs.Fresh.{Fresh}
+use Rattle.rules.specs.Demand3.{Sorted, Earlier}
+use Rattle.rules.proofs.Folds.{flat-member, member-flat}
+use Rattle.rules.proofs.Changes.{stands-outcome}
+use Rattle.rules.proofs.Fresh.{fresh-carry, fresh-animals, fresh-ticks, fresh-cells}
+use Rattle.rules.proofs.Sorted.{sorted-flat, sorted-one, member-one}
+
+module _ (T : List ℕ) where
+  -- The contacts of tick t and animal u.
+  abbrev row : ℕ → ℕ → List Contact
+  row t u = flat (λ v. held T (contact u v (t + 1))) (animals T)
+
+  -- The contacts of tick t.
+  abbrev rows : ℕ → List Contact
+  rows t = flat (row t) (animals T)
+
+  -- Where a listed contact stands.
+  record At (t : ℕ) (k : Contact) : Type 0 where
+    pub from-below : k .from < animals T
+    pub to-below : k .to < animals T
+    pub tick-is : k .tick ≡ t + 1
+    pub stands : Adding.holds T k ≡ true
+
+  held-at : (u v t : ℕ) (k : Contact) → List·Memᴰ k (held T (contact u v (t + 1))) → (k ≡ contact u v (t + 1)) × (Adding.holds T k ≡ true)
+  unfolding held
+  held-at u v t k m = let r = member-one (Adding.holds T (contact u v (t + 1))) (contact u v (t + 1)) k m in (r .0, subst (λ c. Adding.holds T c ≡ true) (sym (r .0)) (r .1))
+
+  row-at : (t u : ℕ) (k : Contact) → u < animals T → List·Memᴰ k (row t u) → (k .from ≡ u) × At t k
+  row-at t u k h m =
+      let r = member-flat (λ v. held T (contact u v (t + 1))) (animals T) m in
+      let e = held-at u (r .0) t k (r .2) in
+      let f = ap (λ c. c .from) (e .0) in
+      let g = ap (λ c. c .to) (e .0) in
+      (f, record { from-below = omega arith; to-below = omega (arith, r .1); tick-is = ap (λ c. c .tick) (e .0); stands = e .1 })
+
+  rows-at : (t : ℕ) (k : Contact) → List·Memᴰ k (rows t) → At t k
+  rows-at t k m = let r = member-flat (row t) (animals T) m in row-at t (r .0) k (r .1) (r .2) .1
+
+  held-sorted-one : (k : Contact) → Sorted Earlier (held T k)
+  unfolding held
+  held-sorted-one k = sorted-one Earlier (Adding.holds T k) k
+
+  row-sorted : (t u : ℕ) → Sorted Earlier (row t u)
+  row-sorted t u = sorted-flat Earlier (λ v. held T (contact u v (t + 1))) (animals T) (λ v h. held-sorted-one (contact u v (t + 1))) order
+    where
+      order : (i j : ℕ) → i < j → j < animals T → (a b : Contact) → List·Memᴰ a (held T (contact u i (t + 1))) → List·Memᴰ b (held T (contact u j (t + 1))) → Earlier a b
+      order i j o h a b p q =
+          let e = held-at u i t a p .0 in
+          let f = held-at u j t b q .0 in
+          let g = ap (λ c. c .to) e in
+          let l = ap (λ c. c .to) f in
+          inr (ap (λ c. c .tick) e ∙ sym (ap (λ c. c .tick) f), inr (ap (λ c. c .from) e ∙ sym (ap (λ c. c .from) f), omega arith))
+
+  rows-sorted : (t : ℕ) → Sorted Earlier (rows t)
+  rows-sorted t = sorted-flat Earlier (row t) (animals T) (λ u h. row-sorted t u) order
+    where
+      order : (i j : ℕ) → i < j → j < animals T → (a b : Contact) → List·Memᴰ a (row t i) → List·Memᴰ b (row t j) → Earlier a b
+      order i j o h a b p q =
+          let e = row-at t i a (omega arith) p in
+          let f = row-at t j b h q in
+          inr (e .1 .tick-is ∙ sym (f .1 .tick-is), inl (omega (arith, e .0, f .0)))
+
+  -- The contacts are listed by t, then u, then v, each once.
+  pub held-sorted : Sorted Earlier (heldContacts T)
+  unfolding heldContacts
+  held-sorted = sorted-flat Earlier rows (ticks T) (λ t h. rows-sorted t) order
+    where
+      order : (i j : ℕ) → i < j → j < ticks T → (a b : Contact) → List·Memᴰ a (rows i) → List·Memᴰ b (rows j) → Earlier a b
+      order i j o h a b p q = inl (omega (arith, rows-at i a p .tick-is, rows-at j b q .tick-is))
+
+  -- Which contacts are listed.
+  pub record Listed (k : Contact) : Type 0 where
+    pub from-below : k .from < animals T
+    pub to-below : k .to < animals T
+    pub from-one : 1 ≤ k .tick
+    pub to-last : k .tick ≤ ticks T
+    pub stands : Adding.holds T k ≡ true
+
+  pub held-iff : (k : Contact) → List·Memᴰ k (heldContacts T) ↔ Listed k
+  unfolding heldContacts held
+  held-iff k = (to, of)
+    where
+      to : List·Memᴰ k (heldContacts T) → Listed k
+      to m =
+          let r = member-flat rows (ticks T) m in
+          let a = rows-at (r .0) k (r .2) in
+          record { from-below = a .from-below; to-below = a .to-below; from-one = omega (arith, a .tick-is); to-last = omega (arith, a .tick-is, r .1); stands = a .stands }
+
+      of : Listed k → List·Memᴰ k (heldContacts T)
+      of l =
+          let t : ℕ = k .tick - 1 in
+          let e : t + 1 ≡ k .tick = omega (arith, l .from-one) in
+          flat-member rows (ticks T) t (omega (arith, l .from-one, l .to-last))
+          (flat-member (row t) (animals T) (k .from) (l .from-below)
+          (flat-member (λ v. held T (contact (k .from) v (t + 1))) (animals T) (k .to) (l .to-below)
+          (subst (λ s. List·Memᴰ k (held T (contact (k .from) (k .to) s))) (sym e) (here (l .stands)))))
+        where
+          here : Adding.holds T k ≡ true → List·Memᴰ k (held T k)
+          here e = subst (λ b. List·Memᴰ k (cond b (k ∷ []) [])) (sym e) (List·Memᴰ·head refl)
+
+-- ---- on a fresh table
+
+module _ {n τ δ : ℕ} {S : Contacts} {T : List ℕ} (f : Fresh n τ δ S T) where
+  -- A fresh table holds a contact of its animals exactly when it is in its set.
+  pub fresh-holds : (k : Contact) → k .from < n → k .to < n → (Adding.holds T k ≡ true) ↔ S k
+  unfolding Adding.holds
+  fresh-holds k h j = rw (fresh-carry f, fresh-cells f (k .from) (k .to) h j) (go (ℕ-discrete (k .from) (k .to)) (stands-outcome (interval (k .tick) (k .tick + δ)) (f .cells (k .from) (k .to))))
+    where
+      untrue : {A : Type 0} → false ≡ true → A
+      untrue e = absurd (let z : _≡_ {A = ℕ} 0 1 = ap (λ (b : Bool). cond b 1 0) e in omega arith)
+
+      go : {b : Bool} → Dec (k .from ≡ k .to) → Outcome (List·Memᴰ (interval (k .tick) (k .tick + δ)) (f .cells (k .from) (k .to))) (¬ List·Memᴰ (interval (k .tick) (k .tick + δ)) (f .cells (k .from) (k .to))) b
+          → (b ≡ true) ↔ S k
+      go (yes e) (holds m) = absurd (List·Memᴰ·not-nil (subst (λ c. List·Memᴰ (interval (k .tick) (k .tick + δ)) c) (subst (λ v. f .cells (k .from) v ≡ []) e (f .minimal .diagonal (k .from))) m))
+      go (yes e) (fails m) = (λ q. untrue q, λ s. absurd (f .legal k s .apart e))
+      go (no d) (holds m) = (λ q. contacts-stand δ S (f .cells) (f .sizes .δ-low) (f .minimal) (k .from) (k .to) (k .tick) d .0 m, λ s. refl)
+      go (no d) (fails m) = (λ q. untrue q, λ s. absurd (m (contacts-stand δ S (f .cells) (f .sizes .δ-low) (f .minimal) (k .from) (k .to) (k .tick) d .1 s)))
+
+  -- Its listed contacts are those of its set.
+  pub fresh-held : (k : Contact) → List·Memᴰ k (heldContacts T) ↔ S k
+  fresh-held k = (to, of)
+    where
+      to : List·Memᴰ k (heldContacts T) → S k
+      to m =
+          let l = held-iff T k .0 m in
+          fresh-holds k (omega (arith, l .from-below, fresh-animals f)) (omega (arith, l .to-below, fresh-animals f)) .0 (l .stands)
+
+      of : S k → List·Memᴰ k (heldContacts T)
+      of s =
+          let l = f .legal k s in
+          held-iff T k .1
+          (record {
+            from-below = omega (arith, l .from-below, fresh-animals f);
+            to-below = omega (arith, l .to-below, fresh-animals f);
+            from-one = l .from-one;
+            to-last = omega (arith, l .to-last, fresh-ticks f);
+            stands = fresh-holds k (l .from-below) (l .to-below) .1 s;
+          })

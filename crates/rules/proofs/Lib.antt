@@ -1,0 +1,14 @@
+pub mod Folds
+pub mod Decode
+pub mod Sound
+pub mod Changes
+pub mod Judged
+pub mod Fresh
+pub mod Demand1
+pub mod Demand2
+pub mod Sorted
+pub mod Held
+pub mod Runs
+pub mod Demand3
+pub mod Determined
+pub mod Rejected

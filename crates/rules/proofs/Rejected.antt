@@ -1,0 +1,92 @@
+-- Each wrong engine goes wrong on a list of calls, so it does not meet demand 3.
+use mathlib.Core.Path.{_≡_, refl, sym, ap, _∙_, subst}
+use mathlib.Core.Logic.{_↔_, _⊎_, inl, inr, ⊎-elim}
+use mathlib.Core.Bool.{Bool, true, false, cond}
+use mathlib.Core.List.{List, [], _∷_, _++_, List·Memᴰ, List·Memᴰ·head, List·Memᴰ·tail, List·Memᴰ·cases-cons, List·Memᴰ·not-nil}
+use Prim.Native.Nat.{ℕ, zero, suc, _+_, _≤_}
+use native.Mathlib.Omega.{arith}
+use lib.ListN.{length, getD, replicate}
+use Rattle.journeys.specs.Journey.{Contact, contact}
+use Rattle.journeys.specs.Cell.{later, sooner, latestDeparture, earliestArrival, hasInside, withoutContaining, putInOrder, enter}
+use Rattle.journeys.specs.Adding.{departureOf, arrivalOf, enterBoth, add}
+use Rattle.words.specs.Layout.{isOf}
+use Rattle.rules.specs.declared.OpenAnswer.{OpenAnswer}
+use Rattle.rules.specs.declared.OpenAnswer.the-variants.{Opened, Refused as OpenRefused}
+use Rattle.rules.specs.declared.AddAnswer.{AddAnswer}
+use Rattle.rules.specs.declared.AddAnswer.the-variants.{New, Known, Refused as AddRefused}
+use Rattle.rules.specs.Folds.{flat, allBelow, sumBelow, countBelow}
+use Rattle.rules.specs.Layout.{cellWords, tableWords, cellAt, cellOf, cellsOf}
+use Rattle.rules.specs.Checks.{isOpen, fineRow, fineRows, allUnused, fineCell, wellFormed}
+use Rattle.rules.specs.Opening.{openRefusal, openAnswer, openLeaves}
+use Rattle.rules.specs.Adding.{Legal, stands, sameCell, cellsChanged, addRefusal, addedCells, holds, addAnswer, addLeaves}
+use Rattle.rules.specs.Logs.{held, heldContacts, logWords, writeRefusal, writeAnswer, writeLeaves}
+use Rattle.rules.specs.Demand3.{Engine, engine, run, tableAfter, LegalOf, Accepted, Sorted, Earlier, Demand3}
+use Rattle.rules.specs.Determined.{AgreeAfter, Agree}
+use Rattle.rules.specs.Wrong.{leavesTable, loneContacts, joinsEarlier, joinsLater, firstPairOnly, keepsDisplaced, countsOne, alwaysKnown, alwaysNew, refusesAdds, refusesOpenings, unsortedLog, repeatsInLog, Rejected}
+use Rattle.rules.proofs.Demand3.{demand3}
+use Rattle.rules.proofs.Determined.{determined}
+
+-- A table of three animals and two ticks, before it is opened.
+abbrev blank : List ℕ
+blank = replicate 28 0
+
+-- An engine that meets the demand leaves on it what the engine of document 01 leaves, word for word.
+module _ (E : Engine) (d : Demand3 E) (p : E .open-answer 3 2 1 blank ≡ Opened) (A : List Contact) where
+  agree : AgreeAfter E engine 3 2 1 blank A
+  agree = determined E engine d demand3 .after 3 2 1 blank A p
+
+  same-word : (i : ℕ) → getD (tableAfter E 3 2 1 blank A) i 0 ≡ getD (tableAfter engine 3 2 1 blank A) i 0
+  same-word i = ap (λ (l : List ℕ). getD l i 0) (agree .tables)
+
+  same-answer : (k : Contact) → Legal 3 2 k → E .add-answer (tableAfter E 3 2 1 blank A) k ≡ engine .add-answer (tableAfter engine 3 2 1 blank A) k
+  same-answer = agree .answers
+
+-- An answer as a number.
+abbrev told : AddAnswer → ℕ
+told (New k) = k + k
+told (Known k) = suc (k + k)
+told (AddRefused r) = 100
+
+first : Legal 3 2 (contact 0 1 1)
+first = record { from-below = omega arith; to-below = omega arith; apart = λ e. omega arith; from-one = omega arith; to-last = omega arith }
+
+second : Legal 3 2 (contact 0 1 2)
+second = record { from-below = omega arith; to-below = omega arith; apart = λ e. omega arith; from-one = omega arith; to-last = omega arith }
+
+abbrev twice : List Contact
+twice = contact 0 1 1 ∷ contact 0 1 2 ∷ []
+
+twice-legal : (k : Contact) → List·Memᴰ k twice ↔ LegalOf 3 2 twice k
+twice-legal k = (λ m. (m, legal m), λ h. h .0)
+  where
+    legal : List·Memᴰ k twice → Legal 3 2 k
+    legal (List·Memᴰ·head e) = subst (Legal 3 2) (sym e) first
+    legal (List·Memᴰ·tail (List·Memᴰ·head e)) = subst (Legal 3 2) (sym e) second
+    legal (List·Memᴰ·tail (List·Memᴰ·tail m)) = absurd (List·Memᴰ·not-nil m)
+
+twice-sorted : Sorted Earlier twice
+twice-sorted = (inl (omega arith), (tt, tt))
+
+-- The same word in a log of these two contacts.
+same-logged : (E : Engine) → Demand3 E → E .open-answer 3 2 1 blank ≡ Opened → (i : ℕ)
+    → getD (E .write-leaves (tableAfter E 3 2 1 blank twice) (replicate 6 0)) i 0 ≡ getD (engine .write-leaves (tableAfter engine 3 2 1 blank twice) (replicate 6 0)) i 0
+same-logged E d p i = ap (λ (l : List ℕ). getD l i 0) (agree E d p twice .log twice twice-sorted twice-legal (replicate 6 0) (omega arith))
+
+pub rejected : Rejected
+unfolding openAnswer openLeaves openRefusal tableWords flat cellWords run addLeaves addAnswer addRefusal isOpen isOf wellFormed allBelow fineCell fineRows fineRow allUnused cellsOf cellAt cellOf addedCells add departureOf arrivalOf enterBoth enter putInOrder withoutContaining hasInside latestDeparture earliestArrival later sooner stands holds cellsChanged sumBelow countBelow sameCell held heldContacts logWords writeRefusal writeAnswer writeLeaves
+rejected =
+    record {
+      leaves-table = λ d. (let w : _≡_ {A = ℕ} 0xC000_0000 0xC000_0001 = same-word leavesTable d refl (contact 0 2 1 ∷ []) 7 in omega arith);
+      lone-contacts = λ d. (let w : _≡_ {A = ℕ} 0xC000_0000 0xC000_0001 = same-word loneContacts d refl (contact 0 1 1 ∷ contact 1 2 2 ∷ []) 7 in omega arith);
+      joins-earlier = λ d. (let w : _≡_ {A = ℕ} 0xC000_0000 0xC000_0001 = same-word joinsEarlier d refl (contact 1 2 2 ∷ contact 0 1 1 ∷ []) 7 in omega arith);
+      joins-later = λ d. (let w : _≡_ {A = ℕ} 0xC000_0000 0xC000_0001 = same-word joinsLater d refl (contact 0 1 1 ∷ contact 1 2 2 ∷ []) 7 in omega arith);
+      first-pair-only = λ d. (let w : _≡_ {A = ℕ} 0xC000_0000 0xC000_0001 = same-word firstPairOnly d refl (contact 0 1 1 ∷ contact 1 2 2 ∷ []) 16 in omega arith);
+      keeps-displaced = λ d. (let w : _≡_ {A = ℕ} 0xC000_0002 0xC000_0001 = same-word keepsDisplaced d refl (contact 0 1 1 ∷ contact 1 2 2 ∷ contact 0 2 2 ∷ []) 7 in omega arith);
+      counts-one = λ d. (let w : _≡_ {A = ℕ} 3 1 = ap told (same-answer countsOne d refl (contact 0 1 1 ∷ []) (contact 0 1 1) first) in omega arith);
+      always-known = λ d. (let w : _≡_ {A = ℕ} 3 2 = ap told (same-answer alwaysKnown d refl [] (contact 0 1 1) first) in omega arith);
+      always-new = λ d. (let w : _≡_ {A = ℕ} 0 1 = ap told (same-answer alwaysNew d refl (contact 0 1 1 ∷ []) (contact 0 1 1) first) in omega arith);
+      refuses-adds = λ d. (let w : _≡_ {A = ℕ} 100 2 = ap told (same-answer refusesAdds d refl [] (contact 0 1 1) first) in omega arith);
+      refuses-openings = λ d. (let w : OpenRefused _ ≡ Opened = determined refusesOpenings engine d demand3 .openings 3 2 1 blank .1 refl in let z : _≡_ {A = ℕ} 0 1 = cc in omega arith);
+      unsorted-log = λ d. (let w : _≡_ {A = ℕ} 0x4000_0401 0x4000_0400 = same-logged unsortedLog d refl 1 in omega arith);
+      repeats-in-log = λ d. (let w : _≡_ {A = ℕ} 0x4000_0400 0xC000_0002 = same-logged repeatsInLog d refl 3 in omega arith);
+    }

@@ -1,0 +1,33 @@
+-- Demand 1 of the tender, with its own words above its parts.
+use Prim.Native.Nat.{ℕ}
+use mathlib.Core.Path.{_≡_}
+use mathlib.Core.List.{List}
+use lib.ListN.{length}
+use Rattle.journeys.specs.Journey.{Contact}
+use Rattle.rules.specs.declared.Refusal.{Refusal}
+use Rattle.rules.specs.declared.OpenAnswer.the-variants.{Opened, Refused as OpenRefused}
+use Rattle.rules.specs.declared.AddAnswer.the-variants.{Refused as AddRefused}
+use Rattle.rules.specs.declared.WriteAnswer.the-variants.{Refused as WriteRefused}
+use Rattle.rules.specs.Layout.{animals, ticks}
+use Rattle.rules.specs.Checks.{Passes}
+use Rattle.rules.specs.Opening.{openAnswer, openLeaves}
+use Rattle.rules.specs.Adding.{Legal, addAnswer, addLeaves}
+use Rattle.rules.specs.Logs.{writeAnswer, writeLeaves}
+
+-- Demand 1. That the memory lent is read and written only inside its ends, and that every call stops with an answer,
+-- is what the proof of each function says; here stands what it says of the words.
+pub record Demand1 : Type 0 where
+  -- "A refusal changes no lent word."
+  pub open-refused : (n τ δ : ℕ) (T : List ℕ) (r : Refusal) → openAnswer n τ δ T ≡ OpenRefused r → openLeaves n τ δ T ≡ T
+  pub add-refused : (T : List ℕ) (k : Contact) (r : Refusal) → addAnswer T k ≡ AddRefused r → addLeaves T k ≡ T
+  pub write-refused : (T B : List ℕ) (r : Refusal) → writeAnswer T B ≡ WriteRefused r → writeLeaves T B ≡ B
+  -- The memory lent keeps its ends.
+  pub open-length : (n τ δ : ℕ) (T : List ℕ) → length (openLeaves n τ δ T) ≡ length T
+  pub add-length : (T : List ℕ) (k : Contact) → length (addLeaves T k) ≡ length T
+  pub write-length : (T B : List ℕ) → length (writeLeaves T B) ≡ length B
+  -- Opening, and every add on a table that passes 5 and 6, leave a table that passes them.
+  pub open-passes : (n τ δ : ℕ) (T : List ℕ) → openAnswer n τ δ T ≡ Opened → Passes (openLeaves n τ δ T)
+  pub add-passes : (T : List ℕ) (k : Contact) → Passes T → Passes (addLeaves T k)
+  -- "Once a table is opened, no legal contact is refused for want of a row": on any table that passes 5 and 6 a legal
+  -- contact is accepted.
+  pub legal-accepted : (T : List ℕ) (k : Contact) → Passes T → Legal (animals T) (ticks T) k → (r : Refusal) → addAnswer T k ≡ AddRefused r → ⊥

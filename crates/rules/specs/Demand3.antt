@@ -1,0 +1,147 @@
+-- Demand 3 of the tender, as one statement about two whole lists of calls, with its own words above its parts.
+use Prim.Native.Nat.{ℕ, _+_, _≤_, _<_}
+use mathlib.Core.Path.{_≡_}
+use mathlib.Core.Logic.{_↔_, _⊎_, _≢_}
+use mathlib.Core.List.{List, [], _∷_, _++_, List·Memᴰ}
+use lib.ListN.{length, drop}
+use Rattle.journeys.specs.Journey.{Contact, Contacts, With, Same, Interval, Minimal}
+use Rattle.words.specs.Words.{openingWord}
+use Rattle.rules.specs.declared.Refusal.{Refusal}
+use Rattle.rules.specs.declared.OpenAnswer.{OpenAnswer}
+use Rattle.rules.specs.declared.OpenAnswer.the-variants.{Opened}
+use Rattle.rules.specs.declared.AddAnswer.{AddAnswer}
+use Rattle.rules.specs.declared.AddAnswer.the-variants.{New, Known, Refused as AddRefused}
+use Rattle.rules.specs.declared.WriteAnswer.{WriteAnswer}
+use Rattle.rules.specs.declared.WriteAnswer.the-variants.{Written}
+use Rattle.rules.specs.Layout.{tableLength, cellAt}
+use Rattle.rules.specs.Opening.{Sizes, openAnswer, openLeaves}
+use Rattle.rules.specs.Adding.{Legal, addAnswer, addLeaves}
+use Rattle.rules.specs.Logs.{logWords, writeAnswer, writeLeaves}
+use Rattle.rules.specs.Fresh.{Fresh}
+
+-- ---- the calls
+
+-- What opening, uncounted adding and log writing answer, and the words that they leave. A contact call is any three numbers.
+pub record Engine : Type 0 where
+  pub open-answer : ℕ → ℕ → ℕ → List ℕ → OpenAnswer
+  pub open-leaves : ℕ → ℕ → ℕ → List ℕ → List ℕ
+  pub add-answer : List ℕ → Contact → AddAnswer
+  pub add-leaves : List ℕ → Contact → List ℕ
+  pub write-answer : List ℕ → List ℕ → WriteAnswer
+  pub write-leaves : List ℕ → List ℕ → List ℕ
+
+-- The engine of document 01: the definitions that the contracts of the three calls cite.
+abbrev pub engine : Engine
+engine =
+    record {
+      open-answer = openAnswer;
+      open-leaves = openLeaves;
+      add-answer = addAnswer;
+      add-leaves = addLeaves;
+      write-answer = writeAnswer;
+      write-leaves = writeLeaves;
+    }
+
+-- A list of calls run on a table: each call takes the table as the last one left it.
+unfoldable pub run : Engine → List ℕ → List Contact → List ℕ
+run E T [] = T
+run E T (k ∷ A) = run E (E .add-leaves T k) A
+
+-- The table that a list of calls leaves, run on a table freshly opened over some words.
+abbrev pub tableAfter : Engine → ℕ → ℕ → ℕ → List ℕ → List Contact → List ℕ
+tableAfter E n τ δ words A = run E (E .open-leaves n τ δ words) A
+
+-- ---- the words of the demand
+
+-- The legal contacts of a list of calls, as a set.
+abbrev pub LegalOf : ℕ → ℕ → List Contact → Contacts
+LegalOf n τ A k = List·Memᴰ k A × Legal n τ k
+
+-- The call is accepted: its answer is no refusal.
+abbrev pub Accepted : AddAnswer → Type 0
+Accepted (New k) = Unit {0}
+Accepted (Known k) = Unit {0}
+Accepted (AddRefused r) = ⊥
+
+-- Each element stands in the order R before the next.
+abbrev pub First : {A : Type 0} → (A → A → Type 0) → A → List A → Type 0
+First R a [] = Unit {0}
+First R a (b ∷ l) = R a b
+
+abbrev pub Sorted : {A : Type 0} → (A → A → Type 0) → List A → Type 0
+Sorted R [] = Unit {0}
+Sorted R (a ∷ l) = First R a l × Sorted R l
+
+-- By t, then u, then v: strictly, so that a sorted list has each contact once.
+abbrev pub Earlier : Contact → Contact → Type 0
+Earlier k c = (k .tick < c .tick) ⊎ ((k .tick ≡ c .tick) × ((k .from < c .from) ⊎ ((k .from ≡ c .from) × (k .to < c .to))))
+
+-- An ordered pair of animals.
+pub record Pair : Type 0 where
+  pub from : ℕ
+  pub to : ℕ
+
+-- By u, then v: strictly, so that a sorted list has each pair once.
+abbrev pub Lower : Pair → Pair → Type 0
+Lower p q = (p .from < q .from) ⊎ ((p .from ≡ q .from) × (p .to < q .to))
+
+-- The contact leaves the minimal intervals of the pair as they are.
+abbrev pub SameMinimal : Contacts → ℕ → Contact → ℕ → ℕ → Type 0
+SameMinimal S δ k x y = (i : Interval) → Minimal (With S k) δ x y i ↔ Minimal S δ x y i
+
+-- The pair is one of different animals below n whose minimal intervals the contact changes.
+pub record Changed (n δ : ℕ) (S : Contacts) (k : Contact) (p : Pair) : Type 0 where
+  pub from-below : p .from < n
+  pub to-below : p .to < n
+  pub different : p .from ≢ p .to
+  pub changes : ¬ SameMinimal S δ k (p .from) (p .to)
+
+-- ---- the demand
+
+module _ (E : Engine) (n τ δ : ℕ) where
+  -- One legal contact more, added to the table T that is fresh over S.
+  pub record OneMore (S : Contacts) (T : List ℕ) (k : Contact) : Type 0 where
+    -- "changes the cells of exactly those pairs of different animals whose minimal intervals it changes"
+    pub exactly : (x y : ℕ) → x < n → y < n → x ≢ y → (cellAt n τ (E .add-leaves T k) x y ≡ cellAt n τ T x y) ↔ SameMinimal S δ k x y
+    pub diagonal : (x : ℕ) → x < n → cellAt n τ (E .add-leaves T k) x x ≡ cellAt n τ T x x
+    -- "is answered with their number": those pairs, each once
+    pub pairs : List Pair
+    pub once : Sorted Lower pairs
+    pub those : (p : Pair) → List·Memᴰ p pairs ↔ Changed n δ S k p
+    -- "and with known exactly when it was among that table's legal contacts already"
+    pub known : (E .add-answer T k ≡ Known (length pairs)) ↔ S k
+    pub new : (E .add-answer T k ≡ New (length pairs)) ↔ (¬ S k)
+    -- "and leaves what a fresh table over the larger set would hold"
+    pub larger : Fresh n τ δ (With S k) (E .add-leaves T k)
+
+  -- What is said of one list of calls, run on its own table.
+  pub record OneList (words : List ℕ) (A : List Contact) : Type 0 where
+    -- "a call is accepted exactly when it is legal"
+    pub accepted : (P : List Contact) (k : Contact) (Q : List Contact) → P ++ (k ∷ Q) ≡ A → Accepted (E .add-answer (tableAfter E n τ δ words P) k) ↔ Legal n τ k
+    -- "each being the fresh table over its own"
+    pub fresh : Fresh n τ δ (LegalOf n τ A) (tableAfter E n τ δ words A)
+    -- "each table's log, in a buffer long enough for it, lists that table's own legal contacts once in sorted order"
+    pub listed : List Contact
+    pub sorted : Sorted Earlier listed
+    pub own : (k : Contact) → List·Memᴰ k listed ↔ LegalOf n τ A k
+    pub written : (B : List ℕ) → length listed + 2 ≤ length B → E .write-answer (tableAfter E n τ δ words A) B ≡ Written (length listed + 2)
+    pub log : (B : List ℕ) → length listed + 2 ≤ length B
+        → E .write-leaves (tableAfter E n τ δ words A) B ≡ logWords (openingWord n τ δ) listed ++ drop (length listed + 2) B
+    -- "one legal contact more, added uncounted, …"
+    pub one-more : (k : Contact) → Legal n τ k → OneMore (LegalOf n τ A) (tableAfter E n τ δ words A) k
+
+  -- What is said of two lists of calls.
+  pub record TwoLists (wordsA wordsB : List ℕ) (A B : List Contact) : Type 0 where
+    pub first : OneList wordsA A
+    pub second : OneList wordsB B
+    -- "the two tables end equal in every word exactly when the legal contacts of A and of B form the same set"
+    pub equal : (tableAfter E n τ δ wordsA A ≡ tableAfter E n τ δ wordsB B) ↔ Same (LegalOf n τ A) (LegalOf n τ B)
+
+-- "Let A and B be any two lists of uncounted contact calls, refused ones included, each list run on a table of its own,
+-- freshly opened, with the same number of animals, number of ticks and carry time for both; each call takes the table
+-- as the last one left it, and nobody else writes it meanwhile."
+pub record Demand3 (E : Engine) : Type 0 where
+  -- A table can be freshly opened just when the three numbers lie within their limits and it has the length for them.
+  pub opened : (n τ δ : ℕ) (words : List ℕ) → (E .open-answer n τ δ words ≡ Opened) ↔ (Sizes n τ δ × (length words ≡ tableLength n τ))
+  pub loaded : (n τ δ : ℕ) (wordsA wordsB : List ℕ) (A B : List Contact) → E .open-answer n τ δ wordsA ≡ Opened → E .open-answer n τ δ wordsB ≡ Opened
+      → TwoLists E n τ δ wordsA wordsB A B

@@ -1,0 +1,13 @@
+pub mod Answers
+pub mod Folds
+pub mod Layout
+pub mod Checks
+pub mod Opening
+pub mod Adding
+pub mod Logs
+pub mod Fresh
+pub mod Demand1
+pub mod Demand2
+pub mod Demand3
+pub mod Determined
+pub mod Wrong

@@ -1,0 +1,139 @@
+-- Wrong engines that demand 3 shuts out (document 01, last paragraph: "Reject").
+use Prim.Native.Nat.{ℕ, _+_}
+use mathlib.Core.Bool.{Bool, true, false, cond, not, _&&_, _||_}
+use mathlib.Core.Option.{Option, none, some}
+use mathlib.Core.List.{List, [], _∷_, _++_}
+use lib.ListN.{length, getD, drop}
+use lib.Dec.{eqb, ltb}
+use Rattle.journeys.specs.Journey.{Contact, interval}
+use Rattle.journeys.specs.Cell.{Cell, hasInside, putInOrder, enter, latestDeparture, earliestArrival}
+use Rattle.journeys.specs.Adding.{Cells, departureOf, arrivalOf, enterBoth}
+use Rattle.rules.specs.declared.Refusal.{Refusal}
+use Rattle.rules.specs.declared.Refusal.the-variants.{AnimalsBeyondLimit, NoSuchAnimal}
+use Rattle.rules.specs.declared.OpenAnswer.{OpenAnswer}
+use Rattle.rules.specs.declared.OpenAnswer.the-variants.{Refused as OpenRefused}
+use Rattle.rules.specs.declared.AddAnswer.{AddAnswer}
+use Rattle.rules.specs.declared.AddAnswer.the-variants.{New, Known, Refused as AddRefused}
+use Rattle.rules.specs.Answers.{unless, addAnswerOf}
+use Rattle.rules.specs.Folds.{flat, allBelow}
+use Rattle.rules.specs.Layout.{tableWords, animals, ticks, carry, cellsOf}
+use Rattle.rules.specs.Opening.{openAnswer, openLeaves}
+use Rattle.rules.specs.Adding.{addRefusal, holds, addedCells, cellsChanged, addAnswer, addLeaves}
+use Rattle.rules.specs.Logs.{heldContacts, logWords, writeRefusal, writeAnswer, writeLeaves}
+use Rattle.rules.specs.Demand3.{Engine, Demand3}
+
+-- The engine with another rule for what an add leaves, for what it answers, and for the log.
+abbrev withLeaves : (List ℕ → Contact → List ℕ) → Engine
+withLeaves f = record { open-answer = openAnswer; open-leaves = openLeaves; add-answer = addAnswer; add-leaves = f; write-answer = writeAnswer; write-leaves = writeLeaves }
+
+abbrev withAnswer : (List ℕ → Contact → AddAnswer) → Engine
+withAnswer f = record { open-answer = openAnswer; open-leaves = openLeaves; add-answer = f; add-leaves = addLeaves; write-answer = writeAnswer; write-leaves = writeLeaves }
+
+abbrev withLog : (List Contact → List Contact) → Engine
+withLog f =
+    record {
+      open-answer = openAnswer;
+      open-leaves = openLeaves;
+      add-answer = addAnswer;
+      add-leaves = addLeaves;
+      write-answer = writeAnswer;
+      write-leaves = λ T B. unless (writeRefusal T B) (logWords (getD T 0 0) (f (heldContacts T)) ++ drop (length (f (heldContacts T)) + 2) B) B;
+    }
+
+-- The engine with another rule for the cells of n animals after a contact.
+abbrev withCells : (ℕ → ℕ → Cells → Contact → Cells) → Engine
+withCells f = withLeaves (λ T k. unless (addRefusal T k) (tableWords (animals T) (ticks T) (carry T) (f (animals T) (carry T) (cellsOf T) k)) T)
+
+-- ---- what an add leaves
+
+-- An add that leaves the table.
+abbrev pub leavesTable : Engine
+leavesTable = withLeaves (λ T k. T)
+
+-- Lone contacts, never joined.
+abbrev pub loneContacts : Engine
+loneContacts = withCells (λ n δ T k x y. cond (eqb x (k .from) && eqb y (k .to)) (enter (interval (k .tick) (k .tick + δ)) (T x y)) (T x y))
+
+-- Only earlier journeys joined: e(y) exists for v alone.
+abbrev pub joinsEarlier : Engine
+joinsEarlier = withCells (λ n δ T k x y. cond (eqb x y) (T x y) (enterBoth (departureOf T k x) (cond (eqb y (k .to)) (some (k .tick + δ)) none) (T x y)))
+
+-- Only later journeys joined: d(x) exists for u alone.
+abbrev pub joinsLater : Engine
+joinsLater = withCells (λ n δ T k x y. cond (eqb x y) (T x y) (enterBoth (cond (eqb x (k .from)) (some (k .tick)) none) (arrivalOf δ T k y) (T x y)))
+
+abbrev exists : Option ℕ → Bool
+exists none = false
+exists (some t) = true
+
+-- Some pair of x with one of the first m animals gets an interval.
+abbrev someBelow : ℕ → Cells → Contact → ℕ → ℕ → Bool
+someBelow δ T k x m = not (allBelow (λ y. eqb x y || not (exists (departureOf T k x) && exists (arrivalOf δ T k y))) m)
+
+-- Only the first pair: its interval enters, and no pair after it gets one.
+abbrev pub firstPairOnly : Engine
+firstPairOnly =
+    withCells (λ n δ T k x y. cond (eqb x y || someBelow δ T k x y || not (allBelow (λ p. not (someBelow δ T k p n)) x)) (T x y) (enterBoth (departureOf T k x) (arrivalOf δ T k y) (T x y)))
+
+-- Displaced intervals are kept.
+abbrev pub keepsDisplaced : Engine
+keepsDisplaced =
+    withCells
+    (λ n δ T k x y. cond (eqb x (k .from) && eqb y (k .to)) (putInOrder (interval (k .tick) (k .tick + δ)) (T x y))
+    (cond (eqb x y) (T x y) (enterBoth (departureOf T k x) (arrivalOf δ T k y) (T x y))))
+
+-- ---- what an add answers
+
+abbrev changed : List ℕ → Contact → ℕ
+changed T k = cellsChanged (animals T) (cellsOf T) (addedCells T k)
+
+-- A changed-cell count that is always 1.
+abbrev pub countsOne : Engine
+countsOne = withAnswer (λ T k. addAnswerOf (addRefusal T k) (cond (holds T k) (Known 1) (New 1)))
+
+-- Known every time.
+abbrev pub alwaysKnown : Engine
+alwaysKnown = withAnswer (λ T k. addAnswerOf (addRefusal T k) (Known (changed T k)))
+
+-- New every time.
+abbrev pub alwaysNew : Engine
+alwaysNew = withAnswer (λ T k. addAnswerOf (addRefusal T k) (New (changed T k)))
+
+-- Refusal of every add.
+abbrev pub refusesAdds : Engine
+refusesAdds = withAnswer (λ T k. AddRefused NoSuchAnimal)
+
+-- Refusal of every opening.
+abbrev pub refusesOpenings : Engine
+refusesOpenings =
+    record { open-answer = λ n τ δ T. OpenRefused AnimalsBeyondLimit; open-leaves = λ n τ δ T. T; add-answer = addAnswer; add-leaves = addLeaves; write-answer = writeAnswer; write-leaves = writeLeaves }
+
+-- ---- what a log lists
+
+abbrev backwards : List Contact → List Contact
+backwards [] = []
+backwards (k ∷ l) = backwards l ++ (k ∷ [])
+
+-- A log that is not sorted.
+abbrev pub unsortedLog : Engine
+unsortedLog = withLog backwards
+
+-- A log with each contact twice.
+abbrev pub repeatsInLog : Engine
+repeatsInLog = withLog (λ l. l ++ l)
+
+-- None of them meets demand 3.
+pub record Rejected : Type 0 where
+  pub leaves-table : ¬ Demand3 leavesTable
+  pub lone-contacts : ¬ Demand3 loneContacts
+  pub joins-earlier : ¬ Demand3 joinsEarlier
+  pub joins-later : ¬ Demand3 joinsLater
+  pub first-pair-only : ¬ Demand3 firstPairOnly
+  pub keeps-displaced : ¬ Demand3 keepsDisplaced
+  pub counts-one : ¬ Demand3 countsOne
+  pub always-known : ¬ Demand3 alwaysKnown
+  pub always-new : ¬ Demand3 alwaysNew
+  pub refuses-adds : ¬ Demand3 refusesAdds
+  pub refuses-openings : ¬ Demand3 refusesOpenings
+  pub unsorted-log : ¬ Demand3 unsortedLog
+  pub repeats-in-log : ¬ Demand3 repeatsInLog

@@ -1,0 +1,57 @@
+-- `well_formed` meets its contract: the opening word says how the words after it lie in rows of cells. Assumes nothing.
+use native.Mathlib.Omega.{arith}
+use borrow.Author.Needs.{needs}
+use mathlib.Core.Path.{_∙_}
+use lib.ListN.{getD}
+use Rattle.words.proofs.Packed.{animalsOf-bound, ticksOf-bound, carryOf-bound}
+use Rattle.rules.proofs.Sound.{opens-length}
+use Rattle.tables.proofs.Rows.{rows-inside, rows-formed}
+use Rattle.tables.proofs.well_formed.Statement.{statement}
+use Rattle.tables.proofs.well_formed.Tie as tie
+
+shared-slice-read-of-word : tie.Need-shared-slice-read-of-word
+shared-slice-read-of-word c = let s = c .before .before in omega (arith, opens-length (s .args .table .now) (s .pre))
+
+of-word-requires : tie.Need-of-word-requires
+of-word-requires c κs = search needs
+
+sub-rows-well-formed : tie.Need-sub-rows-well-formed
+sub-rows-well-formed c = let s = c .before .before .before in omega (arith, opens-length (s .args .table .now) (s .pre))
+
+part-rows-well-formed-start : tie.Need-part-rows-well-formed-start
+part-rows-well-formed-start c = let s = c .before .before .before in omega (arith, opens-length (s .args .table .now) (s .pre))
+
+part-rows-well-formed-end : tie.Need-part-rows-well-formed-end
+part-rows-well-formed-end c = search needs
+
+cast-rows-well-formed : tie.Need-cast-rows-well-formed
+cast-rows-well-formed c = search needs
+
+rows-well-formed-requires : tie.Need-rows-well-formed-requires
+rows-well-formed-requires c κs =
+    let o = c .before .before in
+    let s = o .before .before .before in
+    let e = o .of-word .ensures in
+    let w = getD (s .args .table .now) 0 0 in
+    let r = rows-inside (s .args .table .now) _ _ _ (e .0) (e .1) (e .2) (s .pre) in
+    (omega (arith, animalsOf-bound w), omega (arith, ticksOf-bound w), omega (arith, carryOf-bound w), r)
+
+returns : tie.Need-returns
+returns c =
+    let o = c .before .before .before in
+    let s = o .before .before .before in
+    let e = o .of-word .ensures in
+    c .rows-well-formed .ensures ∙ rows-formed (s .args .table .now) _ _ _ (e .0) (e .1) (e .2)
+
+pub well-formed-spec : {M : Type 1} → statement M
+well-formed-spec =
+    tie.close
+    (tie.spec
+    shared-slice-read-of-word
+    of-word-requires
+    sub-rows-well-formed
+    part-rows-well-formed-start
+    part-rows-well-formed-end
+    cast-rows-well-formed
+    rows-well-formed-requires
+    returns)

@@ -1,0 +1,57 @@
+//! What document 01 says of each call on any lent words: the answer, and the words afterwards.
+
+use crate::check;
+use crate::ffi::log::Written;
+use crate::ffi::{Added, Opened};
+use crate::rule;
+use crate::words::{self, Opening};
+
+/// Opening over these words.
+pub fn open(table: &[u32], animals: u32, ticks: u32, carry: u32) -> (Opened, Vec<u32>) {
+    let refused = |number| (Opened::Refused(number), table.to_vec());
+    if !(1..=256).contains(&animals) {
+        return refused(1);
+    }
+    if !(1..=1024).contains(&ticks) {
+        return refused(2);
+    }
+    if !(1..=256).contains(&carry) {
+        return refused(3);
+    }
+    let opening = Opening::new(animals, ticks, carry);
+    if table.len() != opening.table_words() {
+        return refused(4);
+    }
+    let empty = vec![Vec::new(); opening.pairs()];
+    (Opened::Opened, words::table(opening, &empty))
+}
+
+/// Adding the contact (u, v, t) to the table of these words.
+pub fn add(table: &[u32], u: u32, v: u32, t: u32) -> (Added, Vec<u32>) {
+    let checked = check::open_table(table).and_then(|(opening, cells)| {
+        let contact = check::contact(opening, u, v, t)?;
+        Ok((opening, cells, contact))
+    });
+    match checked {
+        Err(number) => (Added::Refused(number), table.to_vec()),
+        Ok((opening, cells, contact)) => {
+            let (after, answer) = rule::add(opening, &cells, contact);
+            (answer, words::table(opening, &after))
+        }
+    }
+}
+
+/// Writing the log of the table of these words into the buffer.
+pub fn write_log(table: &[u32], buffer: &[u32]) -> (Written, Vec<u32>) {
+    let mut after = buffer.to_vec();
+    let (opening, cells) = match check::open_table(table) {
+        Err(number) => return (Written::Refused(number), after),
+        Ok(read) => read,
+    };
+    let log = words::log(opening, check::held_contacts(opening, &cells));
+    if buffer.len() < log.len() {
+        return (Written::Refused(15), after);
+    }
+    after[..log.len()].copy_from_slice(&log);
+    (Written::Written(log.len() as u32), after)
+}

@@ -1,0 +1,100 @@
+//! Random openings, contacts and well-formed cells.
+
+use crate::random::Random;
+use crate::words::{Cells, Contact, Interval, Opening};
+
+/// A small opening, with a carry time above the ticks now and then.
+pub fn opening(random: &mut Random) -> Opening {
+    let animals = random.between(1, 7);
+    let ticks = random.between(1, 12);
+    let longest = random.one_of(&[2, 4, 14]);
+    Opening::new(animals, ticks, random.between(1, longest))
+}
+
+/// A small opening with two animals or more.
+pub fn opening_with_pairs(random: &mut Random) -> Opening {
+    let drawn = opening(random);
+    Opening {
+        animals: drawn.animals.max(2),
+        ..drawn
+    }
+}
+
+/// A legal contact; there are two animals or more.
+pub fn contact(random: &mut Random, opening: Opening) -> Contact {
+    let from = random.between(0, opening.animals - 1);
+    let step = random.between(1, opening.animals - 1);
+    let tick = random.between(1, opening.ticks);
+    Contact::new(from, (from + step) % opening.animals, tick)
+}
+
+/// Three numbers that may or may not be a legal contact.
+pub fn numbers(random: &mut Random, opening: Opening) -> (u32, u32, u32) {
+    let beyond = random.one_of(&[opening.animals, 256, 1 << 18, u32::MAX]);
+    let late = random.one_of(&[0, opening.ticks + 1, 1025, u32::MAX]);
+    let animal = |random: &mut Random| {
+        if random.once_in(8) {
+            beyond
+        } else {
+            random.between(0, opening.animals - 1)
+        }
+    };
+    let (u, v) = (animal(random), animal(random));
+    let tick = if random.once_in(6) {
+        late
+    } else {
+        random.between(1, opening.ticks)
+    };
+    (u, v, tick)
+}
+
+/// Every legal contact, in log order.
+pub fn legal_contacts(opening: Opening) -> Vec<Contact> {
+    let mut legal = Vec::new();
+    for tick in 1..=opening.ticks {
+        for from in 0..opening.animals {
+            for to in (0..opening.animals).filter(|&to| to != from) {
+                legal.push(Contact::new(from, to, tick));
+            }
+        }
+    }
+    legal
+}
+
+/// The cells of the fresh table over every legal contact: each contact alone is minimal.
+pub fn full_cells(opening: Opening) -> Cells {
+    let mut cells = vec![Vec::new(); opening.pairs()];
+    for contact in legal_contacts(opening) {
+        cells[opening.pair(contact.from, contact.to)].push(contact.interval(opening.carry));
+    }
+    cells
+}
+
+/// Cells of a well-formed table that need not be a closure.
+pub fn cells(random: &mut Random, opening: Opening) -> Cells {
+    let sparse = random.between(1, 5) as usize;
+    let slack = random.one_of(&[0, 1, 3, opening.ticks]);
+    let mut cells = Cells::new();
+    for u in 0..opening.animals {
+        for v in 0..opening.animals {
+            let mut departures: Vec<u32> = (1..=opening.ticks).collect();
+            departures.retain(|_| u != v && random.once_in(sparse));
+            cells.push(rising(random, opening, &departures, slack));
+        }
+    }
+    cells
+}
+
+/// A row for each departure, with rising arrivals at most `slack` later than they must be.
+fn rising(random: &mut Random, opening: Opening, departures: &[u32], slack: u32) -> Vec<Interval> {
+    let mut rows = Vec::new();
+    let mut latest = opening.last_arrival();
+    for &departure in departures.iter().rev() {
+        let least = departure + opening.carry;
+        let arrival = random.between(least, latest.min(least + slack));
+        rows.push(Interval::new(departure, arrival));
+        latest = arrival - 1;
+    }
+    rows.reverse();
+    rows
+}

@@ -1,0 +1,82 @@
+//! Document 01's checks of an open table and of a contact's numbers, each with its refusal.
+
+use crate::words::{self, Cells, Contact, Interval, Opening};
+
+/// The opening and the cells of a table, or refusal 5 or 6.
+pub fn open_table(table: &[u32]) -> Result<(Opening, Cells), u32> {
+    let first = table.first().ok_or(5u32)?;
+    let opening = words::read_opening(*first).ok_or(5u32)?;
+    if table.len() != opening.table_words() {
+        return Err(5);
+    }
+    let mut cells = Cells::new();
+    for u in 0..opening.animals {
+        for v in 0..opening.animals {
+            let start = opening.cell_start(u, v);
+            let cell =
+                read_cell(opening, &table[start..start + opening.cell_words()]).ok_or(6u32)?;
+            if u == v && !cell.is_empty() {
+                return Err(6);
+            }
+            cells.push(cell);
+        }
+    }
+    Ok((opening, cells))
+}
+
+/// The contact (u, v, t) on a table with this opening, or refusal 7, 8 or 9.
+pub fn contact(opening: Opening, u: u32, v: u32, t: u32) -> Result<Contact, u32> {
+    if u >= opening.animals || v >= opening.animals {
+        Err(7)
+    } else if u == v {
+        Err(8)
+    } else if t < 1 || t > opening.ticks {
+        Err(9)
+    } else {
+        Ok(Contact::new(u, v, t))
+    }
+}
+
+/// The contacts that the cells hold, in log order.
+pub fn held_contacts(opening: Opening, cells: &Cells) -> Vec<Contact> {
+    let mut held = Vec::new();
+    for u in 0..opening.animals {
+        for v in 0..opening.animals {
+            for interval in &cells[opening.pair(u, v)] {
+                let contact = Contact::new(u, v, interval.departure);
+                if contact.interval(opening.carry) == *interval {
+                    held.push(contact);
+                }
+            }
+        }
+    }
+    held.sort();
+    held
+}
+
+/// The intervals of one cell's words, or none where the cell is not well formed.
+fn read_cell(opening: Opening, cell: &[u32]) -> Option<Vec<Interval>> {
+    let rows = words::read_count(cell[0])?;
+    if rows > opening.ticks {
+        return None;
+    }
+    let (used, unused) = cell[1..].split_at(rows as usize);
+    if unused.iter().any(|&word| word != 0) {
+        return None;
+    }
+    let mut intervals: Vec<Interval> = Vec::new();
+    for &word in used {
+        let interval = words::read_interval(word)?;
+        let last = intervals.last();
+        let rising =
+            last.is_none_or(|l| l.departure < interval.departure && l.arrival < interval.arrival);
+        let departs = 1 <= interval.departure && interval.departure <= opening.ticks;
+        let least = interval.departure + opening.carry;
+        let arrives = least <= interval.arrival && interval.arrival <= opening.last_arrival();
+        if !(rising && departs && arrives) {
+            return None;
+        }
+        intervals.push(interval);
+    }
+    Some(intervals)
+}

@@ -1,0 +1,15 @@
+//! Safe calls of the proved contact tracing engine, and what its comparison tests need.
+//!
+//! `ffi` calls the engine. `model` says by a plain search over contacts what a table must hold;
+//! `rule`, `check` and `calls` say it from the text of document 01, for tables that no adds built.
+
+pub mod calls;
+pub mod cases;
+pub mod check;
+pub mod compare;
+pub mod ffi;
+pub mod guard;
+pub mod model;
+pub mod random;
+pub mod rule;
+pub mod words;

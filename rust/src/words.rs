@@ -1,0 +1,179 @@
+//! Contacts, intervals and openings, and their 32-bit words as document 01 lays them out.
+
+/// The numbers of a table: animals n, ticks τ and carry time δ.
+#[derive(Clone, Copy, Debug, PartialEq, Eq)]
+pub struct Opening {
+    pub animals: u32,
+    pub ticks: u32,
+    pub carry: u32,
+}
+
+/// A contact, ordered as in a log: by tick, then by the animal left, then by the animal met.
+#[derive(Clone, Copy, Debug, PartialEq, Eq, PartialOrd, Ord)]
+pub struct Contact {
+    pub tick: u32,
+    pub from: u32,
+    pub to: u32,
+}
+
+/// The first departure and the last arrival of a journey.
+#[derive(Clone, Copy, Debug, PartialEq, Eq, PartialOrd, Ord)]
+pub struct Interval {
+    pub departure: u32,
+    pub arrival: u32,
+}
+
+/// The intervals of every ordered pair of animals, at the places that `pair` gives.
+pub type Cells = Vec<Vec<Interval>>;
+
+impl Opening {
+    /// The opening for n animals, τ ticks and carry time δ.
+    pub fn new(animals: u32, ticks: u32, carry: u32) -> Opening {
+        Opening {
+            animals,
+            ticks,
+            carry,
+        }
+    }
+
+    /// The last tick at which a contact can arrive, τ+δ.
+    pub fn last_arrival(self) -> u32 {
+        self.ticks + self.carry
+    }
+
+    /// The number of ordered pairs of animals, pairs of one animal included.
+    pub fn pairs(self) -> usize {
+        self.animals as usize * self.animals as usize
+    }
+
+    /// The place of the pair (u, v) among the ordered pairs.
+    pub fn pair(self, u: u32, v: u32) -> usize {
+        u as usize * self.animals as usize + v as usize
+    }
+
+    /// The words of one cell: a count word and τ rows.
+    pub fn cell_words(self) -> usize {
+        self.ticks as usize + 1
+    }
+
+    /// The place of the count word of the cell (u, v) in the table.
+    pub fn cell_start(self, u: u32, v: u32) -> usize {
+        1 + self.pair(u, v) * self.cell_words()
+    }
+
+    /// The words of the whole table: 1 + n·n·(τ+1).
+    pub fn table_words(self) -> usize {
+        1 + self.pairs() * self.cell_words()
+    }
+}
+
+impl Contact {
+    /// The contact (u, v, t).
+    pub fn new(from: u32, to: u32, tick: u32) -> Contact {
+        Contact { tick, from, to }
+    }
+
+    /// The interval of the journey that is this contact alone.
+    pub fn interval(self, carry: u32) -> Interval {
+        Interval::new(self.tick, self.tick + carry)
+    }
+}
+
+impl Interval {
+    /// The interval [departure, arrival].
+    pub fn new(departure: u32, arrival: u32) -> Interval {
+        Interval { departure, arrival }
+    }
+
+    /// Whether this interval lies inside the other one or equals it.
+    pub fn within(self, other: Interval) -> bool {
+        other.departure <= self.departure && self.arrival <= other.arrival
+    }
+}
+
+/// The kind of an unused word.
+pub const UNUSED: u32 = 0;
+/// The kind of an interval word.
+pub const INTERVAL: u32 = 1;
+/// The kind of a contact word.
+pub const CONTACT: u32 = 1;
+/// The kind of an opening word.
+pub const OPENING: u32 = 2;
+/// The kind of a count word.
+pub const COUNT: u32 = 3;
+/// The kind of an end word.
+pub const END: u32 = 3;
+
+/// The bits from `high` down to `low` of a word, both included.
+pub fn bits(word: u32, high: u32, low: u32) -> u32 {
+    (word >> low) & ((1 << (high - low + 1)) - 1)
+}
+
+/// The kind of a word, its top two bits.
+pub fn kind(word: u32) -> u32 {
+    bits(word, 31, 30)
+}
+
+/// The word of an opening.
+pub fn opening_word(opening: Opening) -> u32 {
+    OPENING << 30 | (opening.animals - 1) << 18 | (opening.carry - 1) << 10 | (opening.ticks - 1)
+}
+
+/// The word of an interval in a cell.
+pub fn interval_word(interval: Interval) -> u32 {
+    INTERVAL << 30 | interval.departure << 11 | interval.arrival
+}
+
+/// The word of a contact in a log.
+pub fn contact_word(contact: Contact) -> u32 {
+    CONTACT << 30 | contact.from << 18 | contact.to << 10 | (contact.tick - 1)
+}
+
+/// The word that counts the rows in use of a cell.
+pub fn count_word(rows: u32) -> u32 {
+    COUNT << 30 | rows
+}
+
+/// The word that ends a log of so many contacts.
+pub fn end_word(contacts: u32) -> u32 {
+    END << 30 | contacts
+}
+
+/// The opening of an opening word.
+pub fn read_opening(word: u32) -> Option<Opening> {
+    let animals = bits(word, 25, 18) + 1;
+    let carry = bits(word, 17, 10) + 1;
+    let ticks = bits(word, 9, 0) + 1;
+    (kind(word) == OPENING && bits(word, 29, 26) == 0)
+        .then_some(Opening::new(animals, ticks, carry))
+}
+
+/// The interval of an interval word.
+pub fn read_interval(word: u32) -> Option<Interval> {
+    let interval = Interval::new(bits(word, 21, 11), bits(word, 10, 0));
+    (kind(word) == INTERVAL && bits(word, 29, 22) == 0).then_some(interval)
+}
+
+/// The rows of a count word.
+pub fn read_count(word: u32) -> Option<u32> {
+    (kind(word) == COUNT && bits(word, 29, 11) == 0).then_some(bits(word, 10, 0))
+}
+
+/// The words of the table with these cells.
+pub fn table(opening: Opening, cells: &Cells) -> Vec<u32> {
+    let mut words = vec![opening_word(opening)];
+    for cell in cells {
+        words.push(count_word(cell.len() as u32));
+        words.extend(cell.iter().map(|&interval| interval_word(interval)));
+        words.extend((cell.len()..opening.ticks as usize).map(|_| 0));
+    }
+    words
+}
+
+/// The words of the log of these contacts, which come in log order.
+pub fn log(opening: Opening, contacts: impl IntoIterator<Item = Contact>) -> Vec<u32> {
+    let mut words = vec![opening_word(opening)];
+    words.extend(contacts.into_iter().map(contact_word));
+    words.push(end_word(words.len() as u32 - 1));
+    words
+}

@@ -1,0 +1,98 @@
+//! Opening: the limits, the length and the order of the refusals.
+
+use herd::calls;
+use herd::compare::same_words;
+use herd::ffi::{self, Opened};
+use herd::random::Random;
+
+/// Numbers of animals at and beyond the limits, with some whose square wraps in 32 bits.
+const ANIMALS: [u32; 10] = [0, 1, 2, 3, 255, 256, 257, 1 << 16, 1 << 31, u32::MAX];
+/// Numbers of ticks at and beyond the limits.
+const TICKS: [u32; 8] = [0, 1, 2, 1023, 1024, 1025, 1 << 20, u32::MAX];
+/// Carry times at and beyond the limits.
+const CARRIES: [u32; 8] = [0, 1, 2, 255, 256, 257, 1 << 10, u32::MAX];
+/// The most words that a case takes; the largest table has a test of its own.
+const MOST: u64 = 1 << 18;
+
+/// The formula's length in wide and in wrapping numbers, one less, one more, and some short lengths.
+fn lengths(animals: u32, ticks: u32) -> Vec<usize> {
+    let wide = u128::from(animals) * u128::from(animals) * (u128::from(ticks) + 1) + 1;
+    let square = animals.wrapping_mul(animals);
+    let narrow = square.wrapping_mul(ticks.wrapping_add(1)).wrapping_add(1);
+    let mut lengths = vec![0, 1, 2, 113];
+    for length in [wide as u64, u64::from(narrow)] {
+        if length < MOST && u128::from(length) <= wide {
+            let length = length as usize;
+            lengths.extend([length.saturating_sub(1), length, length + 1]);
+        }
+    }
+    lengths.sort();
+    lengths.dedup();
+    lengths
+}
+
+#[test]
+fn every_combination_at_the_limits() {
+    let mut random = Random::new(101);
+    let filling = random.words(MOST as usize + 1);
+    let mut seen = [0; 5];
+    for animals in ANIMALS {
+        for ticks in TICKS {
+            for carry in CARRIES {
+                for length in lengths(animals, ticks) {
+                    let case = (animals, ticks, carry, length);
+                    let mut table = filling[..length].to_vec();
+                    let answer = ffi::open(&mut table, animals, ticks, carry);
+                    let (expected, after) = calls::open(&filling[..length], animals, ticks, carry);
+                    assert_eq!(answer, expected, "{case:?}");
+                    same_words(&table, &after, case);
+                    match answer {
+                        Opened::Opened => seen[0] += 1,
+                        Opened::Refused(number) => seen[number as usize] += 1,
+                    }
+                }
+            }
+        }
+    }
+    assert!(seen.iter().all(|&times| times >= 40), "{seen:?}");
+}
+
+#[test]
+fn refusals_come_in_order() {
+    let mut table = [7; 113];
+    let refused = [
+        ((0, 0, 0), 1),
+        ((257, 0, 0), 1),
+        ((4, 0, 0), 2),
+        ((4, 1025, 257), 2),
+        ((4, 6, 0), 3),
+        ((4, 6, 257), 3),
+        ((4, 7, 1), 4),
+        ((256, 1024, 256), 4),
+    ];
+    for ((animals, ticks, carry), number) in refused {
+        let answer = ffi::open(&mut table, animals, ticks, carry);
+        assert_eq!(answer, Opened::Refused(number), "{animals} {ticks} {carry}");
+        assert_eq!(table, [7; 113]);
+        let empty = ffi::open(&mut [], animals, ticks, carry);
+        assert_eq!(empty, Opened::Refused(number), "{animals} {ticks} {carry}");
+    }
+    assert_eq!(ffi::open(&mut [], 4, 6, 1), Opened::Refused(4));
+    assert_eq!(ffi::open(&mut table, 4, 6, 1), Opened::Opened);
+    assert_eq!(table[..3], [0x800C_0005, 0xC000_0000, 0]);
+}
+
+#[test]
+fn opening_again_empties_a_table() {
+    let mut random = Random::new(102);
+    for _ in 0..200 {
+        let opening = herd::cases::opening(&mut random);
+        let cells = herd::cases::cells(&mut random, opening);
+        let mut table = herd::words::table(opening, &cells);
+        let (n, ticks, carry) = (opening.animals, opening.ticks, random.between(1, 256));
+        let (expected, after) = calls::open(&table, n, ticks, carry);
+        assert_eq!(ffi::open(&mut table, n, ticks, carry), expected);
+        assert_eq!(expected, Opened::Opened);
+        same_words(&table, &after, (opening, carry));
+    }
+}
