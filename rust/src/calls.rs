@@ -1,10 +1,12 @@
 //! What document 01 says of each call on any lent words: the answer, and the words afterwards.
 
 use crate::check;
+use crate::ffi::chain::Chain;
 use crate::ffi::log::Written;
+use crate::ffi::reach::Reach;
 use crate::ffi::{Added, Opened};
 use crate::rule;
-use crate::words::{self, Opening};
+use crate::words::{self, Contact, Opening};
 
 /// Opening over these words.
 pub fn open(table: &[u32], animals: u32, ticks: u32, carry: u32) -> (Opened, Vec<u32>) {
@@ -54,4 +56,48 @@ pub fn write_log(table: &[u32], buffer: &[u32]) -> (Written, Vec<u32>) {
     }
     after[..log.len()].copy_from_slice(&log);
     (Written::Written(log.len() as u32), after)
+}
+
+/// The reach question on the table of these words, which stay as they are.
+pub fn reach(table: &[u32], u: u32, v: u32, first: u32, last: u32) -> Reach {
+    let checked = check::open_table(table).and_then(|(opening, cells)| {
+        check::animals(opening, u, v)?;
+        let window = check::window(opening, first, last)?;
+        Ok(rule::fits(&cells[opening.pair(u, v)], window))
+    });
+    checked.map_or_else(Reach::Refused, Reach::answered)
+}
+
+/// The chain question on the table of these words, which stay as they are, and the buffer's words afterwards.
+pub fn chain(
+    table: &[u32],
+    u: u32,
+    v: u32,
+    first: u32,
+    last: u32,
+    buffer: &[u32],
+) -> (Chain, Vec<u32>) {
+    let checked = check::open_table(table).and_then(|(opening, cells)| {
+        check::animals(opening, u, v)?;
+        let window = check::window(opening, first, last)?;
+        check::chain_buffer(opening, buffer)?;
+        Ok(rule::chain(opening, &cells, u, v, window))
+    });
+    chained(checked, buffer)
+}
+
+/// The answer, and the buffer's words after a chain, no journey or a refusal.
+pub fn chained(found: Result<Option<Vec<Contact>>, u32>, buffer: &[u32]) -> (Chain, Vec<u32>) {
+    let mut after = buffer.to_vec();
+    let answer = match found {
+        Err(number) => Chain::Refused(number),
+        Ok(None) => Chain::NoJourney,
+        Ok(Some(contacts)) => {
+            for (word, &contact) in after.iter_mut().zip(&contacts) {
+                *word = words::contact_word(contact);
+            }
+            Chain::Contacts(contacts.len() as u32)
+        }
+    };
+    (answer, after)
 }

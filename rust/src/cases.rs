@@ -1,4 +1,4 @@
-//! Random openings, contacts and well-formed cells.
+//! Random openings, contacts, questions and well-formed cells.
 
 use crate::random::Random;
 use crate::words::{Cells, Contact, Interval, Opening};
@@ -46,6 +46,24 @@ pub fn numbers(random: &mut Random, opening: Opening) -> (u32, u32, u32) {
         random.between(1, opening.ticks)
     };
     (u, v, tick)
+}
+
+/// A question's two animals and the first and last tick of its window.
+pub type Question = (u32, u32, u32, u32);
+
+/// Four numbers that may or may not be a legal question.
+pub fn question(random: &mut Random, opening: Opening) -> Question {
+    let end = opening.last_arrival();
+    let (u, v, _) = numbers(random, opening);
+    let (one, other) = (random.between(1, end), random.between(1, end));
+    let (first, last) = (one.min(other), one.max(other));
+    let outside = random.one_of(&[0, end + 1, end + 2, 2048, 1 << 31, u32::MAX]);
+    match random.below(16) {
+        0 => (u, v, outside, last),
+        1 => (u, v, first, outside),
+        2 => (u, v, last, first),
+        _ => (u, v, first, last),
+    }
 }
 
 /// Every legal contact, in log order.

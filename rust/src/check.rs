@@ -1,4 +1,4 @@
-//! Document 01's checks of an open table and of a contact's numbers, each with its refusal.
+//! Document 01's checks of an open table and of a call's numbers, each with its refusal.
 
 use crate::words::{self, Cells, Contact, Interval, Opening};
 
@@ -26,14 +26,41 @@ pub fn open_table(table: &[u32]) -> Result<(Opening, Cells), u32> {
 
 /// The contact (u, v, t) on a table with this opening, or refusal 7, 8 or 9.
 pub fn contact(opening: Opening, u: u32, v: u32, t: u32) -> Result<Contact, u32> {
+    animals(opening, u, v)?;
+    if t < 1 || t > opening.ticks {
+        Err(9)
+    } else {
+        Ok(Contact::new(u, v, t))
+    }
+}
+
+/// Two different animals of a table with this opening, or refusal 7 or 8.
+pub fn animals(opening: Opening, u: u32, v: u32) -> Result<(), u32> {
     if u >= opening.animals || v >= opening.animals {
         Err(7)
     } else if u == v {
         Err(8)
-    } else if t < 1 || t > opening.ticks {
+    } else {
+        Ok(())
+    }
+}
+
+/// The window [first, last] on a table with this opening, or refusal 9.
+pub fn window(opening: Opening, first: u32, last: u32) -> Result<Interval, u32> {
+    let ticks = 1..=opening.last_arrival();
+    if !ticks.contains(&first) || !ticks.contains(&last) || first > last {
         Err(9)
     } else {
-        Ok(Contact::new(u, v, t))
+        Ok(Interval::new(first, last))
+    }
+}
+
+/// A buffer for the longest chain on a table with this opening, or refusal 10.
+pub fn chain_buffer(opening: Opening, buffer: &[u32]) -> Result<(), u32> {
+    if buffer.len() < opening.animals as usize - 1 {
+        Err(10)
+    } else {
+        Ok(())
     }
 }
 

@@ -1,6 +1,8 @@
 //! Safe calls of the engine's exports, with one answer type for each call.
 
+pub mod chain;
 pub mod log;
+pub mod reach;
 
 extern "C" {
     fn herd_open(table: *mut u32, words: usize, animals: u32, ticks: u32, carry: u32) -> u64;

@@ -2,6 +2,7 @@
 
 use crate::words::{self, Cells, Contact, Interval, Opening};
 use std::collections::BTreeSet;
+use std::ops::RangeInclusive;
 
 /// A set of contacts in log order.
 pub type Contacts = BTreeSet<Contact>;
@@ -13,7 +14,7 @@ pub fn minimal_intervals(opening: Opening, contacts: &Contacts) -> Cells {
     for x in 0..opening.animals {
         let departures: BTreeSet<u32> = leaving[x as usize].iter().map(|c| c.tick).collect();
         for departure in departures {
-            let arrivals = earliest_arrivals(opening, &leaving, x, departure);
+            let arrivals = earliest_arrivals(opening, &leaving, x, departure..=departure);
             for y in (0..opening.animals).filter(|&y| y != x) {
                 if let Some(arrival) = arrivals[y as usize] {
                     cells[opening.pair(x, y)].push(Interval::new(departure, arrival));
@@ -27,6 +28,81 @@ pub fn minimal_intervals(opening: Opening, contacts: &Contacts) -> Cells {
 /// The fresh table over the set.
 pub fn fresh_table(opening: Opening, contacts: &Contacts) -> Vec<u32> {
     words::table(opening, &minimal_intervals(opening, contacts))
+}
+
+/// The earliest arrival at each animal of a journey that leaves `x` at `first` or later.
+pub fn arrivals_from(
+    opening: Opening,
+    contacts: &Contacts,
+    x: u32,
+    first: u32,
+) -> Vec<Option<u32>> {
+    let leaving = by_animal_left(opening, contacts);
+    earliest_arrivals(opening, &leaving, x, first..=opening.ticks)
+}
+
+/// Every journey of a set of contacts, known by its animals, departure and arrival.
+pub struct Journeys {
+    opening: Opening,
+    contacts: Contacts,
+    seen: Vec<Vec<bool>>,
+}
+
+impl Journeys {
+    /// The journeys of the set.
+    pub fn new(opening: Opening, contacts: &Contacts) -> Journeys {
+        let leaving = by_animal_left(opening, contacts);
+        let mut seen = Vec::new();
+        for x in 0..opening.animals {
+            for departure in 1..=opening.ticks {
+                seen.push(arrivals(opening, &leaving, x, departure..=departure));
+            }
+        }
+        Journeys {
+            opening,
+            contacts: contacts.clone(),
+            seen,
+        }
+    }
+
+    /// Whether a journey leaves `x` at the departure and reaches `y` at the arrival.
+    fn holds(&self, x: u32, y: u32, departure: u32, arrival: u32) -> bool {
+        let from = &self.seen[(x * self.opening.ticks + departure - 1) as usize];
+        from[(y * (self.opening.last_arrival() + 1) + arrival) as usize]
+    }
+
+    /// The latest departure, at `first` or later, of a journey from `x` that reaches `y` at the arrival.
+    fn latest(&self, x: u32, y: u32, first: u32, arrival: u32) -> Option<u32> {
+        let mut departures = (first..=self.opening.ticks).rev();
+        departures.find(|&departure| self.holds(x, y, departure, arrival))
+    }
+
+    /// The chain from `u` to `v` in the window, by document 01's rule on the journeys.
+    pub fn chain(&self, u: u32, v: u32, window: Interval) -> Option<Vec<Contact>> {
+        let carry = self.opening.carry;
+        let leaves = |&arrival: &u32| self.latest(u, v, window.departure, arrival).is_some();
+        let arrival = (1..=window.arrival).find(leaves)?;
+        let (mut x, mut departure) = (u, self.latest(u, v, window.departure, arrival)?);
+        let mut chain = Vec::new();
+        while x != v {
+            let met = departure + carry;
+            let next = |z| {
+                if z == v {
+                    (met == arrival).then_some(met)
+                } else {
+                    self.latest(z, v, met, arrival)
+                }
+            };
+            let contacts = (0..self.opening.animals).map(|z| Contact::new(x, z, departure));
+            let taken = contacts
+                .filter(|contact| self.contacts.contains(contact))
+                .find_map(|contact| next(contact.to).map(|later| (contact, later)));
+            let (contact, later) = taken.expect("a journey goes on until its last animal");
+            chain.push(contact);
+            (x, departure) = (contact.to, later);
+        }
+        Some(chain)
+    }
 }
 
 /// The number of ordered pairs whose intervals differ.
@@ -43,28 +119,41 @@ fn by_animal_left(opening: Opening, contacts: &Contacts) -> Vec<Vec<Contact>> {
     leaving
 }
 
-/// The earliest arrival at each animal of a journey that leaves `x` exactly at `departure`.
+/// The earliest arrival at each animal of a journey that leaves `x` at one of the departures.
 fn earliest_arrivals(
     opening: Opening,
     leaving: &[Vec<Contact>],
     x: u32,
-    departure: u32,
+    departures: RangeInclusive<u32>,
 ) -> Vec<Option<u32>> {
     let times = opening.last_arrival() as usize + 1;
+    let seen = arrivals(opening, leaving, x, departures);
+    let earliest = |animal: &[bool]| animal.iter().position(|&seen| seen);
+    let times = seen.chunks(times).map(earliest);
+    times.map(|time| time.map(|time| time as u32)).collect()
+}
+
+/// Whether a journey that leaves `x` at one of the departures reaches each animal at each time from 0 to τ+δ.
+fn arrivals(
+    opening: Opening,
+    leaving: &[Vec<Contact>],
+    x: u32,
+    departures: RangeInclusive<u32>,
+) -> Vec<bool> {
+    let times = opening.last_arrival() as usize + 1;
     let mut seen = vec![false; opening.animals as usize * times];
-    let mut earliest: Vec<Option<u32>> = vec![None; opening.animals as usize];
     let mut open: Vec<Contact> = Vec::new();
-    open.extend(leaving[x as usize].iter().filter(|c| c.tick == departure));
+    let leaving_x = leaving[x as usize].iter();
+    open.extend(leaving_x.filter(|c| departures.contains(&c.tick)));
     while let Some(taken) = open.pop() {
         let (animal, time) = (taken.to as usize, taken.tick + opening.carry);
         if seen[animal * times + time as usize] {
             continue;
         }
         seen[animal * times + time as usize] = true;
-        earliest[animal] = Some(earliest[animal].map_or(time, |known| known.min(time)));
         open.extend(leaving[animal].iter().filter(|c| c.tick >= time));
     }
-    earliest
+    seen
 }
 
 /// Those of the journey intervals inside which no other one lies.

@@ -1,7 +1,8 @@
-//! Document 01's add rule on cells, word for word, for any well-formed table.
+//! Document 01's add rule, its fit of a window and its chain on cells, word for word, for any well-formed table.
 
 use crate::ffi::Added;
 use crate::words::{Cells, Contact, Interval, Opening};
+use std::cmp::Reverse;
 
 /// The cells after the contact is added to `before`, and the answer.
 pub fn add(opening: Opening, before: &Cells, contact: Contact) -> (Cells, Added) {
@@ -31,6 +32,59 @@ pub fn add(opening: Opening, before: &Cells, contact: Contact) -> (Cells, Added)
     }
     let known = before[opening.pair(u, v)].contains(&contact.interval(opening.carry));
     (after, Added::accepted(known, changed))
+}
+
+/// Whether an interval of the cell departs at or after the window's first tick and arrives by its last.
+pub fn fits(cell: &[Interval], window: Interval) -> bool {
+    cell.iter().any(|interval| interval.within(window))
+}
+
+/// The chain from `u` to `v` in the window: the walk, when it ends at `v` within n−1 contacts.
+pub fn chain(
+    opening: Opening,
+    cells: &Cells,
+    u: u32,
+    v: u32,
+    window: Interval,
+) -> Option<Vec<Contact>> {
+    let (walked, ends) = walk(opening, cells, u, v, window);
+    (ends && walked.len() < opening.animals as usize).then_some(walked)
+}
+
+/// The contacts that the chain's rule goes through from `u`, and whether they end at `v`.
+pub fn walk(
+    opening: Opening,
+    cells: &Cells,
+    u: u32,
+    v: u32,
+    window: Interval,
+) -> (Vec<Contact>, bool) {
+    let mut walked = Vec::new();
+    let cell = &cells[opening.pair(u, v)];
+    let fitting = cell.iter().filter(|i| i.within(window));
+    let Some(kept) = fitting.min_by_key(|i| (i.arrival, Reverse(i.departure))) else {
+        return (walked, false);
+    };
+    let (mut x, mut departure) = (u, kept.departure);
+    while x != v {
+        let met = Interval::new(departure, departure + opening.carry);
+        let held = |z: &u32| cells[opening.pair(x, *z)].contains(&met);
+        let next = (0..opening.animals).filter(held).find_map(|z| {
+            let goes_on = |i: &&Interval| i.arrival == kept.arrival && i.departure >= met.arrival;
+            if z == v {
+                (met.arrival == kept.arrival).then_some((z, met.arrival))
+            } else {
+                let onward = cells[opening.pair(z, v)].iter().find(goes_on);
+                onward.map(|i| (z, i.departure))
+            }
+        });
+        let Some((z, later)) = next else {
+            return (walked, false);
+        };
+        walked.push(Contact::new(x, z, departure));
+        (x, departure) = (z, later);
+    }
+    (walked, true)
 }
 
 /// The latest departure in the cell with arrival at most `tick`.

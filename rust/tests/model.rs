@@ -105,6 +105,39 @@ fn search_finds_what_listing_every_journey_finds() {
 }
 
 #[test]
+fn search_from_a_tick_finds_what_listing_every_journey_finds() {
+    let mut random = Random::new(203);
+    for _ in 0..2_000 {
+        let opening = Opening::new(
+            random.between(2, 4),
+            random.between(1, 5),
+            random.between(1, 7),
+        );
+        let number = random.below(10);
+        let contacts: Contacts = (0..number)
+            .map(|_| cases::contact(&mut random, opening))
+            .collect();
+        let mut journeys = Vec::new();
+        for &first in &contacts {
+            follow(opening, &contacts, first, first, &mut journeys);
+        }
+        for x in 0..opening.animals {
+            for first in 0..=opening.last_arrival() + 1 {
+                let found = model::arrivals_from(opening, &contacts, x, first);
+                for y in 0..opening.animals {
+                    let listed = journeys
+                        .iter()
+                        .filter(|j| (j.0, j.1) == (x, y) && j.2.departure >= first);
+                    let expected = listed.map(|j| j.2.arrival).min();
+                    let case = (opening, &contacts, x, y, first);
+                    assert_eq!(found[y as usize], expected, "{case:?}");
+                }
+            }
+        }
+    }
+}
+
+#[test]
 fn rule_builds_what_the_search_finds() {
     let mut random = Random::new(202);
     for _ in 0..500 {

@@ -1,9 +1,9 @@
 -- Adding as the loops do it is the rule: the words that they leave and the cells that they count.
 use mathlib.Core.Path.{_≡_, refl, sym, ap, ap₂, _∙_, subst}
 use mathlib.Core.Bool.{Bool, true, false, cond, not}
-use mathlib.Core.Option.{Option, none, some}
+use mathlib.Core.Option.{none, some}
 use mathlib.Core.List.{List, [], _∷_, _++_, append-nil, List·Memᴰ}
-use Prim.Native.Nat.{ℕ, zero, suc, _+_, _-_, _*_, _≤_, _<_}
+use Prim.Native.Nat.{ℕ, _+_, _-_, _*_, _≤_, _<_}
 use native.Mathlib.Omega.{arith}
 use native.Mathlib.Nat.{le-of-eq}
 use lib.ListN.{length, getD, take, drop, length-drop}
@@ -11,14 +11,13 @@ use lib.Seq.{drop-drop, drop-length, take-all}
 use lib.Dec.{eqb}
 use Rattle.journeys.specs.Journey.{Contact, Interval, interval}
 use Rattle.journeys.specs.Cell.{Cell, Limits, latestDeparture, earliestArrival}
-use Rattle.journeys.specs.Adding.{Cells, departureOf, arrivalOf, enterBoth, add}
-use Rattle.rules.specs.Folds.{flat, sumBelow, countBelow}
-use Rattle.rules.specs.Layout.{tableLength, cellWords, tableWords, animals, ticks, carry, cellAt, cellOf, cellsOf}
-use Rattle.rules.specs.Opening.{Sizes}
+use Rattle.journeys.specs.Adding.{departureOf, arrivalOf, enterBoth, add}
+use Rattle.rules.specs.Folds.{flat, sumBelow}
+use Rattle.rules.specs.Layout.{cellWords, tableWords, animals, ticks, carry, cellAt, cellOf, cellsOf}
 use Rattle.rules.specs.Checks.{Passes}
 use Rattle.rules.specs.Adding.{Legal, stands, sameCell, cellsChanged, addRefusal, addedCells, holds, addLeaves}
 use Rattle.rules.proofs.Folds.{flat-length, flat-same, sum-same, count-same}
-use Rattle.rules.proofs.Decode.{Good, cell-length}
+use Rattle.rules.proofs.Decode.{cell-length}
 use Rattle.rules.proofs.Sound.{table-sizes, opens-first, opens-length, part-length, part-words, passes-good}
 use Rattle.rules.proofs.Judged.{add-iff}
 use Rattle.rules.proofs.Changes.{sameCell-refl}
@@ -83,9 +82,11 @@ module _ (T : List ℕ) (p : Passes T) where
 -- ---- an add that no check refuses
 
 module _ (T : List ℕ) (k : Contact) (ok : addRefusal T k ≡ none) where
+  -- The table passes its checks.
   passes : Passes T
   passes = add-iff T k .0 ok .0
 
+  -- The contact is legal.
   legal : Legal (animals T) (ticks T) k
   legal = add-iff T k .0 ok .1
 
@@ -106,16 +107,17 @@ module _ (T : List ℕ) (k : Contact) (ok : addRefusal T k ≡ none) where
   unfolding holds cellsOf
   known-is = ap (λ (l : List ℕ). stands (interval (k .tick) a) (cellOf l)) (cell-in T passes (k .from) (k .to))
 
-  -- The departures and arrivals are those of the rule.
+  -- The departures are those of the rule.
   departure-is : (x : ℕ) → departing m s body (k .from) (k .tick) x ≡ orZero (departureOf (cellsOf T) k x)
   unfolding departing departureOf cellsOf
   departure-is x = ap (λ (l : List ℕ). orZero (cond (eqb x (k .from)) (some (k .tick)) (latestDeparture (cellOf l) (k .tick)))) (cell-in T passes x (k .from))
 
+  -- The arrivals are those of the rule.
   arrival-is : (y : ℕ) → arriving m s body (k .to) a y ≡ orZero (arrivalOf (carry T) (cellsOf T) k y)
   unfolding arriving arrivalOf cellsOf
   arrival-is y = ap (λ (l : List ℕ). orZero (cond (eqb y (k .to)) (some a) (earliestArrival (cellOf l) a))) (cell-in T passes (k .to) y)
 
-  -- They lie within their limits.
+  -- The departures lie within their limits.
   departure-tick : (x : ℕ) → x < m → Tick s (departureOf (cellsOf T) k x)
   unfolding departureOf
   departure-tick x h =
@@ -123,6 +125,7 @@ module _ (T : List ℕ) (k : Contact) (ok : addRefusal T k ≡ none) where
       (omega (arith, legal .from-one, legal .to-last))
       (latest-tick s (k .tick) (cellsOf T x (k .from)) (λ i q. let l = limits T passes x (k .from) h (legal .from-below) i q in omega (arith, l .departs, l .in-time)))
 
+  -- The arrivals lie within their limits.
   arrival-tick : (y : ℕ) → y < m → Tick 2048 (arrivalOf (carry T) (cellsOf T) k y)
   unfolding arrivalOf
   arrival-tick y h =
@@ -133,15 +136,19 @@ module _ (T : List ℕ) (k : Contact) (ok : addRefusal T k ≡ none) where
       (λ i q. let l = limits T passes (k .to) y (legal .to-below) h i q in omega (arith, l .departs, l .carried, l .arrives, z .τ-high, z .δ-high)))
 
   module _ (d e : List ℕ) (hd : Listed m (departing m s body (k .from) (k .tick)) d) (he : Listed m (arriving m s body (k .to) a) e) where
+    -- The departures lie within the cell.
     pub departures-below : Below m s d
     departures-below x h = rw (hd x h, departure-is x) (tick-below s (departureOf (cellsOf T) k x) (omega arith) (departure-tick x h))
 
+    -- The arrivals have their 11 bits.
     pub arrivals-below : Below m 2048 e
     arrivals-below y h = rw (he y h, arrival-is y) (tick-below 2048 (arrivalOf (carry T) (cellsOf T) k y) (omega arith) (arrival-tick y h))
 
+    -- A departure is read from the array as the rule has it.
     departure-read : (x : ℕ) → x < m → tickOf (getD d x 0) ≡ departureOf (cellsOf T) k x
     departure-read x h = ap tickOf (hd x h ∙ departure-is x) ∙ tick-again s (departureOf (cellsOf T) k x) (departure-tick x h)
 
+    -- An arrival is read from the array as the rule has it.
     arrival-read : (y : ℕ) → y < m → tickOf (getD e y 0) ≡ arrivalOf (carry T) (cellsOf T) k y
     arrival-read y h = ap tickOf (he y h ∙ arrival-is y) ∙ tick-again 2048 (arrivalOf (carry T) (cellsOf T) k y) (arrival-tick y h)
 
@@ -149,6 +156,7 @@ module _ (T : List ℕ) (k : Contact) (ok : addRefusal T k ≡ none) where
     cell-at : (x y : ℕ) → y < m → part s y (part (m * s) x body) ≡ cellAt m (ticks T) T x y
     cell-at x y h = cell-of-row m s x y body h ∙ cell-in T passes x y
 
+    -- The cell that its words say.
     cell-is : (x y : ℕ) → cellOf (cellAt m (ticks T) T x y) ≡ cellsOf T x y
     unfolding cellsOf
     cell-is x y = refl
@@ -168,18 +176,22 @@ module _ (T : List ℕ) (k : Contact) (ok : addRefusal T k ≡ none) where
         go true = part-words T passes x y h j
         go false = ap (λ (c : Cell). cellWords (ticks T) (enterBoth (departureOf (cellsOf T) k x) (arrivalOf (carry T) (cellsOf T) k y) c)) (cell-is x y)
 
+    -- The cell that the rule leaves has its τ + 1 words.
     added-length : (x y : ℕ) → x < m → y < m → length (cellWords (ticks T) (addedCells T k x y)) ≡ s
     added-length x y h j = let z = table-sizes T in cell-length (ticks T) (carry T) (z .τ-high) (z .δ-high) (addedCells T k x y) (added-good T k ok .cells x y h j)
 
+    -- So have the words that a turn leaves.
     step-length : (x y : ℕ) → x < m → y < m → length (stepAt x (getD d x 0) e y (part s y (part (m * s) x body))) ≡ s
     step-length x y h j = ap length (step-is x y h j) ∙ added-length x y h j
 
+    -- The words of the row of x become those that the rule leaves.
     row-is : (x : ℕ) → x < m → stepRow m s d e x (part (m * s) x body) ≡ flat (λ y. cellWords (ticks T) (addedCells T k x y)) m
     unfolding stepRow
     row-is x h =
         parts-flat (stepAt x (getD d x 0) e) s (part (m * s) x body) m (row-length m s body (body-of T passes) x h) (λ y j. step-length x y h j)
         ∙ flat-same _ _ m (λ y j. step-is x y h j)
 
+    -- The row keeps its length.
     row-made : (x : ℕ) → x < m → length (stepRow m s d e x (part (m * s) x body)) ≡ m * s
     row-made x h = ap length (row-is x h) ∙ flat-length _ s m (λ y j. added-length x y h j)
 
@@ -187,6 +199,7 @@ module _ (T : List ℕ) (k : Contact) (ok : addRefusal T k ≡ none) where
     body-is : parts (stepRow m s d e) (m * s) m body ≡ flat (λ x. flat (λ y. cellWords (ticks T) (addedCells T k x y)) m) m
     body-is = parts-flat (stepRow m s d e) (m * s) body m (body-rows m s body (body-of T passes)) row-made ∙ flat-same _ _ m row-is
 
+    -- The first word alone.
     first-only : (l : List ℕ) → 1 ≤ length l → take 1 l ≡ getD l 0 0 ∷ []
     first-only [] h = absurd (omega arith)
     first-only (w ∷ l) h = refl
@@ -202,6 +215,7 @@ module _ (T : List ℕ) (k : Contact) (ok : addRefusal T k ≡ none) where
 
     -- ---- the count
 
+    -- A cell is counted where the rule changes it.
     moves-is : (x y : ℕ) → x < m → y < m → movesAt s x (getD d x 0) e (part (m * s) x body) y ≡ not (sameCell (cellsOf T x y) (addedCells T k x y))
     unfolding movesAt moves addedCells add
     moves-is x y h j = rw (cell-at x y j, departure-read x h, arrival-read y j) (go (eqb x y))
@@ -229,6 +243,7 @@ pub record Accepted (T : List ℕ) (k : Contact) : Type 0 where
   pub tick-small : k .tick ≤ 1024
   pub carry-small : carry T ≤ 256
 
+-- It follows from the checks.
 pub accepted : (T : List ℕ) (k : Contact) → addRefusal T k ≡ none → Accepted T k
 accepted T k ok =
     let p = passes T k ok in
@@ -258,18 +273,22 @@ module _ (T : List ℕ) (k : Contact) (ok : addRefusal T k ≡ none) {n s a : �
   as-read : (P : ℕ → ℕ → ℕ → List ℕ → Type 0) → P (animals T) (ticks T + 1) (k .tick + carry T) (drop 1 T) → P n s a lent
   as-read P h = rw (r .animals-is, r .size-is, r .arrival-is, r .lent-is) h
 
+  -- The words lent are as the loops over them ask.
   pub read-body : Body n s lent
   read-body = as-read (λ n s a l. Body n s l) (body-of T (passes T k ok))
 
+  -- The contact is known exactly when the table holds it.
   pub read-known : {b : Bool} → b ≡ stands (interval (k .tick) a) (cellOf (cellIn n s lent (k .from) (k .to))) → b ≡ holds T k
   read-known {b} = as-read (λ n s a l. b ≡ stands (interval (k .tick) a) (cellOf (cellIn n s l (k .from) (k .to))) → b ≡ holds T k) (λ q. q ∙ known-is T k ok)
 
   module _ (d e : List ℕ) where
+    -- The ticks read lie within their limits.
     pub read-below : Listed n (departing n s lent (k .from) (k .tick)) d → Listed n (arriving n s lent (k .to) a) e → Below n s d × Below n 2048 e
     read-below =
         as-read (λ n s a l. Listed n (departing n s l (k .from) (k .tick)) d → Listed n (arriving n s l (k .to) a) e → Below n s d × Below n 2048 e)
         (λ hd he. (departures-below T k ok d e hd he, arrivals-below T k ok d e hd he))
 
+    -- The cells counted are those that the rule changes.
     pub read-count : {c : ℕ} → Listed n (departing n s lent (k .from) (k .tick)) d → Listed n (arriving n s lent (k .to) a) e
         → c ≡ sumBelow (rowMoves n s d e lent) n → c ≡ cellsChanged (animals T) (cellsOf T) (addedCells T k)
     read-count {c} =
@@ -278,6 +297,7 @@ module _ (T : List ℕ) (k : Contact) (ok : addRefusal T k ≡ none) {n s a : �
         → c ≡ sumBelow (rowMoves n s d e l) n → c ≡ cellsChanged (animals T) (cellsOf T) (addedCells T k))
         (λ hd he q. q ∙ count-is T k ok d e hd he)
 
+    -- The words left are those of the rule.
     pub read-leaves : (new : List ℕ) → Listed n (departing n s lent (k .from) (k .tick)) d → Listed n (arriving n s lent (k .to) a) e
         → new ≡ parts (stepRow n s d e) (n * s) n lent → take 1 T ++ (new ++ drop (length T - 1) (drop 1 T)) ≡ addLeaves T k
     read-leaves new =

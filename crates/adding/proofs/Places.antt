@@ -4,7 +4,7 @@ use mathlib.Core.List.{List, [], _∷_}
 use Prim.Native.Nat.{ℕ, zero, suc, _+_, _-_, _*_, _≤_, _<_}
 use native.Mathlib.Nat.{mul-le-mul, mul-assoc}
 use native.Mathlib.Omega.{arith}
-use lib.ListN.{length, getD, take, drop, set, length-drop, length-set}
+use lib.ListN.{length, getD, take, drop, set, length-drop}
 use lib.Seq.{take-take, take-nil, drop-drop, length-take-le, getD-set-same, getD-set-other}
 use borrow.Author.Count.{below-more}
 use Rattle.rules.proofs.Folds.{place-of}
@@ -21,6 +21,7 @@ pub record Place (n s : ℕ) (body : List ℕ) (x y : ℕ) : Type 0 where
   pub lent : take ((x * n + y) * s + s - (x * n + y) * s) (drop ((x * n + y) * s) body) ≡ cellIn n s body x y
   pub stored : Stored (take ((x * n + y) * s + s - (x * n + y) * s) (drop ((x * n + y) * s) body))
 
+-- The place of every cell of animals below n.
 pub place : (n s : ℕ) (body : List ℕ) (x y : ℕ) → Body n s body → x < n → y < n → Place n s body x y
 unfolding cellIn
 place n s body x y b h k =
@@ -59,6 +60,7 @@ module _ (n s : ℕ) (body : List ℕ) (b : Body n s body) where
   pub body-rows : length body ≡ n * (n * s)
   body-rows = b .long ∙ mul-assoc n n s
 
+  -- A row has n cells.
   pub row-length : (x : ℕ) → x < n → length (part (n * s) x body) ≡ n * s
   row-length x h =
       length-take-le (n * s) (drop (x * (n * s)) body) (omega (arith, part-inside x n (n * s) h, body-rows, length-drop (x * (n * s)) body))
@@ -74,6 +76,7 @@ module _ (n s : ℕ) (body : List ℕ) (b : Body n s body) where
 
 -- ---- an array of ticks, filled from the front
 
+-- One more tick is stored.
 pub listed-turn : (i : ℕ) (f : ℕ → ℕ) (l : List ℕ) (v : ℕ) → i < length l → Listed i f l → v ≡ f i → Listed (i + 1) f (set l i v)
 listed-turn i f l v h p e =
     below-more (λ k. getD (set l i v) k 0 ≡ f k) i

@@ -1,11 +1,11 @@
 -- The departures and arrivals that a contact joins lie within their limits, and 0 says that there is none.
-use mathlib.Core.Path.{_≡_, refl, sym, ap, _∙_}
+use mathlib.Core.Path.{_≡_, refl, ap, _∙_}
 use mathlib.Core.Bool.{Bool, true, false, cond}
 use mathlib.Core.Option.{Option, none, some}
 use mathlib.Core.List.{List, [], _∷_, List·Memᴰ, List·Memᴰ·head, List·Memᴰ·tail}
-use Prim.Native.Nat.{ℕ, zero, suc, _+_, _≤_, _<_, min, max}
+use Prim.Native.Nat.{ℕ, zero, suc, _≤_, _<_}
 use native.Mathlib.Omega.{arith}
-use lib.Dec.{leb, eqb}
+use lib.Dec.{leb}
 use borrow.Author.Tests.{eq-eqb, ne-eqb}
 use Rattle.journeys.specs.Journey.{Interval}
 use Rattle.journeys.specs.Cell.{Cell, later, sooner, latestDeparture, earliestArrival}
@@ -35,6 +35,7 @@ module _ (m : ℕ) where
   tick-cond true o p h k = h
   tick-cond false o p h k = k
 
+  -- The latest departure is one of the cell.
   pub latest-tick : (t : ℕ) (c : Cell) → ((i : Interval) → List·Memᴰ i c → Tick m (some (i .departure))) → Tick m (latestDeparture c t)
   unfolding latestDeparture later
   latest-tick t [] f = tt
@@ -45,6 +46,7 @@ module _ (m : ℕ) where
       go true (some e) r = let h = f i (List·Memᴰ·head refl) in (omega arith, omega arith)
       go false o r = r
 
+  -- The earliest arrival is one of the cell.
   pub earliest-tick : (t : ℕ) (c : Cell) → ((i : Interval) → List·Memᴰ i c → Tick m (some (i .arrival))) → Tick m (earliestArrival c t)
   unfolding earliestArrival sooner
   earliest-tick t [] f = tt

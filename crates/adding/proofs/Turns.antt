@@ -1,8 +1,8 @@
 -- One cell's turn, and the turns of a loop that counts the cells that change.
-use mathlib.Core.Path.{_≡_, refl, sym, ap, ap₂, _∙_, subst}
+use mathlib.Core.Path.{_≡_, refl, sym, ap, ap₂, _∙_}
 use mathlib.Core.Bool.{Bool, true, false, cond, not}
 use mathlib.Core.Option.{Option, none, some}
-use mathlib.Core.List.{List, [], _∷_, _++_}
+use mathlib.Core.List.{List, _++_}
 use Prim.Native.Nat.{ℕ, zero, suc, _+_, _-_, _*_, _≤_, _<_}
 use native.Mathlib.Numerals.{add-one}
 use native.Mathlib.Omega.{arith}
@@ -27,12 +27,13 @@ tick-is : (t : ℕ) → 1 ≤ t → tickOf t ≡ some t
 tick-is zero h = absurd (omega arith)
 tick-is (suc t) h = refl
 
--- Without a departure, or without an arrival, nothing enters and nothing changes.
+-- Without an arrival nothing enters.
 none-enters : (o : Option ℕ) (c : Cell) → enterBoth o none c ≡ c
 unfolding enterBoth
 none-enters none c = refl
 none-enters (some d) c = refl
 
+-- Without an arrival nothing changes.
 none-moves : (o : Option ℕ) (c : Cell) → false ≡ movesBoth o none c
 none-moves none c = refl
 none-moves (some d) c = refl
@@ -89,6 +90,7 @@ count-most p (suc n) = go (p n) (count-most p n)
     go true h = omega arith
     go false h = omega arith
 
+-- A sum of n numbers of at most 256.
 sum-most : (f : ℕ → ℕ) (n : ℕ) → ((k : ℕ) → f k ≤ 256) → sumBelow f n ≤ n * 256
 unfolding sumBelow
 sum-most f zero h = omega arith
@@ -101,6 +103,7 @@ pub count-start : (p : ℕ → Bool) → 0 ≡ countBelow p 0
 unfolding countBelow
 count-start p = refl
 
+-- Nor before the first row.
 pub sum-start : (g : ℕ → ℕ) → 0 ≡ sumBelow g 0
 unfolding sumBelow
 sum-start g = refl
@@ -117,7 +120,7 @@ pub sum-turn : (n s : ℕ) (d e body : List ℕ) (x m r : ℕ) {lent : List ℕ}
 unfolding sumBelow rowMoves
 sum-turn n s d e body x m r q h f = rw (add-one x) (ap₂ _+_ h (f ∙ ap (λ (l : List ℕ). countBelow (movesAt s x (getD d x 0) e l) n) q))
 
--- The counts stay small.
+-- The count of the cells passed, with one cell more.
 pub count-small : (p : ℕ → Bool) (n m r x y d a : ℕ) (xs : List ℕ) → m ≡ countBelow p n → r ≡ cond (moves x y d a xs) 1 0 → m + r ≤ n + 1
 count-small p n m r x y d a xs e f = go (moves x y d a xs) f
   where
@@ -130,6 +133,7 @@ row-small : (n s : ℕ) (d e body : List ℕ) → n ≤ 256 → (x : ℕ) → ro
 unfolding rowMoves
 row-small n s d e body h x = omega (arith, count-most (movesAt s x (getD d x 0) e (part (n * s) x body)) n)
 
+-- The counts of the rows passed, with one row more.
 pub sum-small : (n s : ℕ) (d e body : List ℕ) (x m r : ℕ) (lent : List ℕ) → n ≤ 256 → x ≤ n → m ≡ sumBelow (rowMoves n s d e body) x
     → r ≡ countBelow (movesAt s x (getD d x 0) e lent) n → m + r ≤ 65792
 sum-small n s d e body x m r lent h k q f =
@@ -147,13 +151,14 @@ parts-same f s l (suc n) e =
     ∙ ap (λ (r : List ℕ). take (n * s) l ++ r) (take-append-drop s (drop (n * s) l))
     ∙ take-append-drop (n * s) l)
 
+-- Where no number passes, none is counted.
 none-count : (p : ℕ → Bool) (n : ℕ) → ((k : ℕ) → k < n → p k ≡ false) → 0 ≡ countBelow p n
 unfolding countBelow
 none-count p zero e = refl
 none-count p (suc n) e = let z : p n ≡ false = e n (omega arith) in rw z (omega (arith, none-count p n (λ k h. e k (omega arith))))
 
 module _ (n s x d : ℕ) (e row : List ℕ) (h : Row n s row) (z : d ≡ 0) where
-  -- Nothing changes.
+  -- No cell changes.
   pub idle-count : 0 ≡ countBelow (movesAt s x d e row) n
   unfolding movesAt moves
   idle-count = none-count (movesAt s x d e row) n (λ k o. rw z (go (eqb x k)))
@@ -162,6 +167,7 @@ module _ (n s x d : ℕ) (e row : List ℕ) (h : Row n s row) (z : d ≡ 0) wher
       go true = refl
       go false = refl
 
+  -- The words stay as they were.
   pub idle-row : row ≡ parts (stepAt x d e) s n row
   unfolding stepAt stepCell enterBoth
   idle-row = parts-same (stepAt x d e) s row n (λ k o. rw z (go (part s k row) (h .cells k o) (eqb x k)))

@@ -1,23 +1,25 @@
 -- What the calls reply and leave, from what their checks and their inner functions say.
 use mathlib.Core.Path.{_≡_, refl, sym, ap, _∙_, subst}
-use mathlib.Core.Bool.{Bool, true, false}
+use mathlib.Core.Bool.{Bool, true, false, cond}
 use mathlib.Core.Option.{Option, none, some}
-use mathlib.Core.List.{List}
-use Prim.Native.Nat.{ℕ, _≤_, _<_}
+use mathlib.Core.List.{List, _++_}
+use Prim.Native.Nat.{ℕ, _+_, _≤_, _<_}
 use native.Mathlib.Omega.{arith}
-use lib.ListN.{length}
-use lib.Dec.{eqb}
+use lib.ListN.{length, getD, drop}
+use lib.Dec.{eqb, leb}
 use borrow.Author.Tests.{eq-eqb, ne-eqb}
 use Rattle.journeys.specs.Journey.{Contact}
 use Rattle.rules.specs.declared.Refusal.{Refusal}
-use Rattle.rules.specs.declared.Refusal.the-variants.{WrongLength, NotOpen, NotWellFormed, AnimalsBeyondLimit, TicksBeyondLimit, CarryBeyondLimit}
+use Rattle.rules.specs.declared.Refusal.the-variants.{WrongLength, NotOpen, NotWellFormed, LogBufferTooShort}
 use Rattle.rules.specs.declared.OpenAnswer.{OpenAnswer}
 use Rattle.rules.specs.declared.OpenAnswer.the-variants.{Opened, Refused as OpenRefused}
 use Rattle.rules.specs.declared.AddAnswer.{AddAnswer}
 use Rattle.rules.specs.declared.AddAnswer.the-variants.{New, Known, Refused as AddRefused}
+use Rattle.rules.specs.declared.WriteAnswer.the-variants.{Written, Refused as WriteRefused}
 use Rattle.rules.specs.Answers.{ensure, openAnswerOf, unless}
 use Rattle.rules.specs.Layout.{tableLength, tableWords, animals, cellsOf}
-use Rattle.rules.specs.Checks.{isOpen, wellFormed, ensureTable}
+use Rattle.rules.specs.Checks.{isOpen, wellFormed, ensureTable, Passes}
+use Rattle.rules.specs.Logs.{heldContacts, logWords, writeRefusal, writeAnswer, writeLeaves}
 use Rattle.rules.specs.Opening.{Sizes, ensureSizes, openRefusal, noIntervals, openAnswer, openLeaves}
 use Rattle.rules.specs.Adding.{ensurePair, ensureTick, addRefusal, holds, cellsChanged, addedCells, addAnswer, addLeaves}
 use Rattle.rules.proofs.Judged.{ensure-iff, sizes-iff}
@@ -26,10 +28,10 @@ use Rattle.tables.specs.declared.Opening.{Opening}
 use Rattle.tables.specs.declared.Made.{Made}
 use Rattle.tables.specs.declared.Made.the-variants.{Within, Beyond}
 use Rattle.tables.specs.Openings.{madeOf, made}
-use Rattle.engine.specs.declared.Verdict.{Verdict}
-use Rattle.engine.specs.declared.Verdict.the-variants.{Passed, Refused}
-use Rattle.engine.specs.Verdicts.{verdictOf}
-use Rattle.engine.proofs.Groups.{Group, table-group, pair-group, sizes-group, verdict-refused, verdict-passed}
+use Rattle.verdicts.specs.declared.Verdict.{Verdict}
+use Rattle.verdicts.specs.declared.Verdict.the-variants.{Passed, Refused}
+use Rattle.verdicts.specs.Verdicts.{verdictOf}
+use Rattle.verdicts.proofs.Groups.{Group, table-group, pair-group, sizes-group, verdict-refused, verdict-passed}
 
 -- ---- opening
 
@@ -133,3 +135,39 @@ module _ (T : List ℕ) (k : Contact) (v : Verdict) (p : v ≡ verdictOf (addRef
     pub add-new : b ≡ false → New m ≡ addAnswer T k
     unfolding addAnswer
     add-new h = rw (add-passed q, sym e ∙ h, f) refl
+
+-- ---- writing a log
+
+-- A table that passed 5 and 6 passes them.
+pub table-passed : (T : List ℕ) (v : Verdict) → v ≡ verdictOf (ensureTable T none) → v ≡ Passed → Passes T
+table-passed T v p q =
+    let e = ensure-iff (isOpen T) NotOpen (ensure (wellFormed T) NotWellFormed none) .0 (verdict-passed (ensureTable T none) (sym p ∙ q)) in
+    record { opens = e .0; formed = ensure-iff (wellFormed T) NotWellFormed none .0 (e .1) .0 }
+
+module _ (T B : List ℕ) (v : Verdict) (p : v ≡ verdictOf (ensureTable T none)) where
+  -- What is checked behind 5 and 6.
+  abbrev fits : Bool
+  fits = leb (length (heldContacts T) + 2) (length B)
+
+  abbrev bufferCheck : Option Refusal
+  bufferCheck = ensure fits LogBufferTooShort none
+
+  pub write-table-refused : (r : Refusal) → v ≡ Refused r → (WriteRefused r ≡ writeAnswer T B) × (B ≡ writeLeaves T B)
+  unfolding writeAnswer writeLeaves writeRefusal
+  write-table-refused r q =
+      let e = table-group T .refuses r (verdict-refused (ensureTable T none) r (sym p ∙ q)) bufferCheck in
+      (rw e refl, rw e refl)
+
+  module _ (q : v ≡ Passed) (b : Bool) (m : ℕ) (U : List ℕ) (e : b ≡ fits) (g : m ≡ length (heldContacts T) + 2)
+      (h : U ≡ cond fits (logWords (getD T 0 0) (heldContacts T) ++ drop (length (heldContacts T) + 2) B) B) where
+    refusal-buffer : writeRefusal T B ≡ bufferCheck
+    unfolding writeRefusal
+    refusal-buffer = table-group T .passes (verdict-passed (ensureTable T none) (sym p ∙ q)) bufferCheck
+
+    pub write-done : b ≡ true → (Written m ≡ writeAnswer T B) × (U ≡ writeLeaves T B)
+    unfolding writeAnswer writeLeaves
+    write-done k = let w : fits ≡ true = sym e ∙ k in (rw (refusal-buffer, w, g) refl, rw (refusal-buffer, w) (rw w at h))
+
+    pub write-short : b ≡ false → (WriteRefused LogBufferTooShort ≡ writeAnswer T B) × (U ≡ writeLeaves T B)
+    unfolding writeAnswer writeLeaves
+    write-short k = let w : fits ≡ false = sym e ∙ k in (rw (refusal-buffer, w) refl, rw (refusal-buffer, w) (rw w at h))

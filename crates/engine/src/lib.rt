@@ -2,69 +2,18 @@
 // lent word afterwards are those of its rule, for every input.
 ghost use mathlib.Core.Path.{_≡_};
 ghost use mathlib.Core.Option.{none};
-ghost use Prim.Native.Nat.{_≤_};
-ghost use lib.ListN.{length};
 ghost use Rattle.journeys.specs.Journey.{contact};
-ghost use Rattle.rules.specs.Checks.{ensureTable};
 ghost use Rattle.rules.specs.Opening.{openAnswer, openLeaves};
-ghost use Rattle.rules.specs.Adding.{ensurePair, ensureTick, addRefusal, addAnswer, addLeaves};
-ghost use Rattle.engine.specs.Verdicts.{verdictOf};
+ghost use Rattle.rules.specs.Adding.{addRefusal, addAnswer, addLeaves};
+ghost use Rattle.rules.specs.Logs.{writeAnswer, writeLeaves};
+ghost use Rattle.verdicts.specs.Verdicts.{verdictOf};
 use rules::AddAnswer;
 use rules::OpenAnswer;
 use rules::Refusal;
+use rules::WriteAnswer;
 use tables::Made;
 use tables::Opening;
-
-// The verdict of a group of checks.
-pub(crate) enum Verdict {
-    Passed,
-    Refused(Refusal),
-}
-
-// Checks 5 and 6, which any call on an open table makes first.
-pub(crate) fn judge_table(table: &[u32]) -> Verdict
-    ensures { λ r. ⌜ r ≡ verdictOf (ensureTable (now (table .entry)) none) ⌝ }
-{
-    if !tables::is_open(table) {
-        return Verdict::Refused(Refusal::NotOpen);
-    }
-    if !tables::well_formed(table) {
-        return Verdict::Refused(Refusal::NotWellFormed);
-    }
-    Verdict::Passed
-}
-
-// Checks 7 and 8, of two animals.
-pub(crate) fn judge_pair(table: &[u32], u: u32, v: u32) -> Verdict
-    requires { ⌜ 1 ≤ length (now table) ⌝ }
-    ensures { λ r. ⌜ r ≡ verdictOf (ensurePair (now (table .entry)) u v none) ⌝ }
-{
-    let n = words::animals_of(table[0]);
-    if n <= u {
-        return Verdict::Refused(Refusal::NoSuchAnimal);
-    }
-    if n <= v {
-        return Verdict::Refused(Refusal::NoSuchAnimal);
-    }
-    if u == v {
-        return Verdict::Refused(Refusal::SameAnimal);
-    }
-    Verdict::Passed
-}
-
-// Check 9, of a contact's tick.
-pub(crate) fn judge_tick(table: &[u32], t: u32) -> Verdict
-    requires { ⌜ 1 ≤ length (now table) ⌝ }
-    ensures { λ r. ⌜ r ≡ verdictOf (ensureTick (now (table .entry)) t none) ⌝ }
-{
-    if t < 1 {
-        return Verdict::Refused(Refusal::TickOutOfRange);
-    }
-    if words::ticks_of(table[0]) < t {
-        return Verdict::Refused(Refusal::TickOutOfRange);
-    }
-    Verdict::Passed
-}
+use verdicts::Verdict;
 
 // Opens a table for n animals, τ ticks and carry time δ: every cell empty. Refuses with 1, 2, 3, 4.
 pub fn open_table(table: &mut [u32], animals: u32, ticks: u32, carry: u32) -> OpenAnswer
@@ -106,15 +55,33 @@ pub fn add_contact(table: &mut [u32], u: u32, v: u32, t: u32) -> AddAnswer
 pub(crate) fn judge_add(table: &[u32], u: u32, v: u32, t: u32) -> Verdict
     ensures { λ r. ⌜ r ≡ verdictOf (addRefusal (now (table .entry)) (contact u v t)) ⌝ }
 {
-    let whole = judge_table(table);
+    let whole = verdicts::judge_table(table);
     match whole {
         Verdict::Refused(r) => Verdict::Refused(r),
         Verdict::Passed => {
-            let pair = judge_pair(table, u, v);
+            let pair = verdicts::judge_pair(table, u, v);
             match pair {
                 Verdict::Refused(r) => Verdict::Refused(r),
-                Verdict::Passed => judge_tick(table, t),
+                Verdict::Passed => verdicts::judge_tick(table, t),
             }
+        }
+    }
+}
+
+// Writes the log of the table to the front of the buffer, and answers the number of words written. Refuses with 5, 6, 15.
+pub fn write_log(table: &[u32], buffer: &mut [u32]) -> WriteAnswer
+    ensures { λ r. ⌜ r ≡ writeAnswer (now (table .entry)) (now (buffer .entry)) ⌝ }
+    ensures { λ _. ⌜ now (buffer .exit) ≡ writeLeaves (now (table .entry)) (now (buffer .entry)) ⌝ }
+{
+    let whole = verdicts::judge_table(table);
+    match whole {
+        Verdict::Refused(r) => WriteAnswer::Refused(r),
+        Verdict::Passed => {
+            let wrote = logs::write_held(table, buffer);
+            if wrote.fits {
+                return WriteAnswer::Written(wrote.words);
+            }
+            WriteAnswer::Refused(Refusal::LogBufferTooShort)
         }
     }
 }

@@ -3,12 +3,16 @@
 ghost use mathlib.Core.Path.{_≡_};
 ghost use Prim.Native.Nat.{_<_};
 ghost use Rattle.journeys.specs.Journey.{contact};
-ghost use Rattle.rules.specs.Answers.{numberOf, reply, openReply, addReply};
+ghost use Rattle.rules.specs.Answers.{numberOf, reply, openReply, addReply, writeReply, askReply};
 ghost use Rattle.rules.specs.Opening.{openAnswer, openLeaves};
 ghost use Rattle.rules.specs.Adding.{addAnswer, addLeaves};
+ghost use Rattle.rules.specs.Logs.{writeAnswer, writeLeaves};
+ghost use Rattle.rules.specs.Questions.{reachAnswer};
 use rules::AddAnswer;
+use rules::AskAnswer;
 use rules::OpenAnswer;
 use rules::Refusal;
+use rules::WriteAnswer;
 
 // Document 01's number of a refusal.
 fn number_of(refusal: Refusal) -> u32
@@ -24,6 +28,7 @@ fn number_of(refusal: Refusal) -> u32
         Refusal::NoSuchAnimal => 7,
         Refusal::SameAnimal => 8,
         Refusal::TickOutOfRange => 9,
+        Refusal::ChainBufferTooShort => 10,
         Refusal::LogBufferTooShort => 15,
     }
 }
@@ -59,5 +64,31 @@ pub extern "C" fn herd_add(table: &mut [u32], u: u32, v: u32, t: u32) -> u64
         AddAnswer::New(k) => reply_of(1, k),
         AddAnswer::Known(k) => reply_of(2, k),
         AddAnswer::Refused(r) => reply_of(0, number_of(r)),
+    }
+}
+
+// Writes a table's log: 1 written, with the number of words, 0 refused.
+#[no_mangle]
+pub extern "C" fn herd_write_log(table: &[u32], buffer: &mut [u32]) -> u64
+    ensures { λ r. ⌜ r ≡ writeReply (writeAnswer (now (table .entry)) (now (buffer .entry))) ⌝ }
+    ensures { λ _. ⌜ now (buffer .exit) ≡ writeLeaves (now (table .entry)) (now (buffer .entry)) ⌝ }
+{
+    let answer = engine::write_log(table, buffer);
+    match answer {
+        WriteAnswer::Written(k) => reply_of(1, k),
+        WriteAnswer::Refused(r) => reply_of(0, number_of(r)),
+    }
+}
+
+// Asks whether v can have been reached from u in a window: 1 yes, 2 no, 0 refused.
+#[no_mangle]
+pub extern "C" fn herd_reach(table: &[u32], u: u32, v: u32, first: u32, last: u32) -> u64
+    ensures { λ r. ⌜ r ≡ askReply (reachAnswer (now (table .entry)) u v first last) ⌝ }
+{
+    let answer = questions::reach(table, u, v, first, last);
+    match answer {
+        AskAnswer::Yes => reply_of(1, 0),
+        AskAnswer::No => reply_of(2, 0),
+        AskAnswer::Refused(r) => reply_of(0, number_of(r)),
     }
 }

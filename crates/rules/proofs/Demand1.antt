@@ -5,7 +5,7 @@ use mathlib.Core.Option.{Option, none, some}
 use mathlib.Core.List.{List, [], _∷_, _++_, map}
 use Prim.Native.Nat.{ℕ, _+_, _≤_, _<_}
 use native.Mathlib.Omega.{arith}
-use lib.ListN.{length, getD, drop, length-append, length-map, length-drop}
+use lib.ListN.{length, getD, drop, length-append, length-map, length-drop, replicate}
 use lib.Dec.{leb}
 use borrow.Author.Tests.{leb-true}
 use Rattle.journeys.specs.Journey.{Contact}
@@ -17,6 +17,7 @@ use Rattle.rules.specs.declared.AddAnswer.{AddAnswer}
 use Rattle.rules.specs.declared.AddAnswer.the-variants.{New, Known, Refused as AddRefused}
 use Rattle.rules.specs.declared.Refusal.the-variants.{NotOpen, NotWellFormed, LogBufferTooShort}
 use Rattle.rules.specs.declared.WriteAnswer.the-variants.{Written, Refused as WriteRefused}
+use Rattle.rules.specs.declared.SetAnswer.the-variants.{Refused as SetRefused}
 use Rattle.words.specs.Words.{contactWord, endWord}
 use Rattle.rules.specs.Answers.{unless, openAnswerOf, addAnswerOf, writeAnswerOf}
 use Rattle.rules.specs.Layout.{tableLength, tableWords, animals, ticks, carry, cellsOf}
@@ -24,6 +25,8 @@ use Rattle.rules.specs.Checks.{isOpen, wellFormed, Passes}
 use Rattle.rules.specs.Opening.{openRefusal, openAnswer, openLeaves}
 use Rattle.rules.specs.Adding.{Legal, addRefusal, addedCells, holds, cellsChanged, addAnswer, addLeaves}
 use Rattle.rules.specs.Logs.{heldContacts, logWords, writeRefusal, writeAnswer, writeLeaves}
+use Rattle.rules.specs.Folds.{countBelow}
+use Rattle.rules.specs.Questions.{setAnswerOf, isReached, setWords, reachedRefusal, reachedAnswer, reachedWords, reachedCount}
 use Rattle.rules.specs.Demand1.{Demand1}
 use Rattle.rules.proofs.Decode.{Good, table-length, table-passes}
 use Rattle.rules.proofs.Sound.{table-sizes, passes-good, opens-length}
@@ -133,12 +136,24 @@ write-length T B =
     let l = heldContacts T in
     length-append (logWords (getD T 0 0) l) (drop (length l + 2) B) ∙ omega (arith, log-length (getD T 0 0) l, length-drop (length l + 2) B))
 
+-- ---- the animals reached
+
+reached-empty : (T : List ℕ) (u first last : ℕ) (r : Refusal) → reachedAnswer T u first last ≡ SetRefused r
+    → (reachedWords T u first last ≡ replicate 8 0) × (reachedCount T u first last ≡ 0)
+unfolding reachedAnswer reachedWords reachedCount
+reached-empty T u first last r = go (reachedRefusal T u first last)
+  where
+    go : (o : Option Refusal) → setAnswerOf o ≡ SetRefused r → (unless o (setWords T u first last) (replicate 8 0) ≡ replicate 8 0) × (unless o (countBelow (isReached T u first last) (animals T)) 0 ≡ 0)
+    go none e = absurd (let z : _≡_ {A = ℕ} 0 1 = cc in omega arith)
+    go (some s) e = (refl, refl)
+
 pub demand1 : Demand1
 demand1 =
     record {
       open-refused = open-kept;
       add-refused = add-kept;
       write-refused = write-kept;
+      reached-refused = reached-empty;
       open-length = open-length;
       add-length = add-length;
       write-length = write-length;

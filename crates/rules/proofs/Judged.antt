@@ -30,7 +30,7 @@ pub ensure-iff : (b : Bool) (r : Refusal) (o : Option Refusal) → (ensure b r o
 ensure-iff true r o = (λ e. (refl, e), λ e. e .1)
 ensure-iff false r o = (λ e. none-some (some r) r e refl, λ e. absurd (let z : _≡_ {A = ℕ} 0 1 = ap (λ (b : Bool). cond b 1 0) (e .0) in omega arith))
 
-within-iff : (low k high : ℕ) → (within low k high ≡ true) ↔ ((low ≤ k) × (k ≤ high))
+pub within-iff : (low k high : ℕ) → (within low k high ≡ true) ↔ ((low ≤ k) × (k ≤ high))
 within-iff low k high = (
   λ e. (leb-true low k (and-left (leb low k) (leb k high) e), leb-true k high (and-right (leb low k) (leb k high) e)),
   λ h. and-intro (leb low k) (leb k high) (le-leb low k (h .0)) (le-leb k high (h .1)),

@@ -5,6 +5,8 @@ pub mod Changes
 pub mod Judged
 pub mod Fresh
 pub mod Demand1
+pub mod Bits
+pub mod Asked
 pub mod Demand2
 pub mod Sorted
 pub mod Held
@@ -12,3 +14,10 @@ pub mod Runs
 pub mod Demand3
 pub mod Determined
 pub mod Rejected
+pub mod RejectedAnswers
+pub mod Distinct
+pub mod Leads
+pub mod Chains
+pub mod ChainShown
+pub mod Examples
+pub mod Claims

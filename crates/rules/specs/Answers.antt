@@ -3,13 +3,17 @@ use Prim.Native.Nat.{ℕ, _+_, _*_, _^_}
 use mathlib.Core.Option.{Option, none, some}
 use mathlib.Core.Bool.{Bool, true, false}
 use Rattle.rules.specs.declared.Refusal.{Refusal}
-use Rattle.rules.specs.declared.Refusal.the-variants.{AnimalsBeyondLimit, TicksBeyondLimit, CarryBeyondLimit, WrongLength, NotOpen, NotWellFormed, NoSuchAnimal, SameAnimal, TickOutOfRange, LogBufferTooShort}
+use Rattle.rules.specs.declared.Refusal.the-variants.{AnimalsBeyondLimit, TicksBeyondLimit, CarryBeyondLimit, WrongLength, NotOpen, NotWellFormed, NoSuchAnimal, SameAnimal, TickOutOfRange, ChainBufferTooShort, LogBufferTooShort}
 use Rattle.rules.specs.declared.OpenAnswer.{OpenAnswer}
 use Rattle.rules.specs.declared.OpenAnswer.the-variants.{Opened, Refused as OpenRefused}
 use Rattle.rules.specs.declared.AddAnswer.{AddAnswer}
 use Rattle.rules.specs.declared.AddAnswer.the-variants.{New, Known, Refused as AddRefused}
 use Rattle.rules.specs.declared.WriteAnswer.{WriteAnswer}
 use Rattle.rules.specs.declared.WriteAnswer.the-variants.{Written, Refused as WriteRefused}
+use Rattle.rules.specs.declared.AskAnswer.{AskAnswer}
+use Rattle.rules.specs.declared.AskAnswer.the-variants.{Yes, No, Refused as AskRefused}
+use Rattle.rules.specs.declared.TickAnswer.{TickAnswer}
+use Rattle.rules.specs.declared.TickAnswer.the-variants.{At, Nothing, Refused as TickRefused}
 
 -- The number of a refusal (document 01, "Where each check sits").
 abbrev pub numberOf : Refusal → ℕ
@@ -22,6 +26,7 @@ numberOf NotWellFormed = 6
 numberOf NoSuchAnimal = 7
 numberOf SameAnimal = 8
 numberOf TickOutOfRange = 9
+numberOf ChainBufferTooShort = 10
 numberOf LogBufferTooShort = 15
 
 -- A reply of the C interface: which answer in the upper 32 bits, its number in the lower 32.
@@ -40,6 +45,11 @@ addReply (AddRefused r) = reply 0 (numberOf r)
 abbrev pub writeReply : WriteAnswer → ℕ
 writeReply (Written k) = reply 1 k
 writeReply (WriteRefused r) = reply 0 (numberOf r)
+
+abbrev pub askReply : AskAnswer → ℕ
+askReply Yes = reply 1 0
+askReply No = reply 2 0
+askReply (AskRefused r) = reply 0 (numberOf r)
 
 -- ---- checks in their order
 
@@ -64,3 +74,15 @@ addAnswerOf (some r) a = AddRefused r
 abbrev pub writeAnswerOf : Option Refusal → WriteAnswer → WriteAnswer
 writeAnswerOf none a = a
 writeAnswerOf (some r) a = WriteRefused r
+
+-- Yes where the test passes, else no.
+abbrev pub askAnswerOf : Option Refusal → Bool → AskAnswer
+askAnswerOf none true = Yes
+askAnswerOf none false = No
+askAnswerOf (some r) b = AskRefused r
+
+-- The tick, where there is one.
+abbrev pub tickAnswerOf : Option Refusal → Option ℕ → TickAnswer
+tickAnswerOf none none = Nothing
+tickAnswerOf none (some t) = At t
+tickAnswerOf (some r) t = TickRefused r

@@ -5,9 +5,15 @@ pub mod Checks
 pub mod Opening
 pub mod Adding
 pub mod Logs
+pub mod Questions
+pub mod Chains
 pub mod Fresh
 pub mod Demand1
-pub mod Demand2
 pub mod Demand3
+pub mod Demand2
 pub mod Determined
 pub mod Wrong
+pub mod WrongAnswers
+pub mod Claims
+pub mod ChainRule
+pub mod Examples

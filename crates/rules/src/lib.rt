@@ -12,6 +12,7 @@ pub enum Refusal {
     NoSuchAnimal,
     SameAnimal,
     TickOutOfRange,
+    ChainBufferTooShort,
     LogBufferTooShort,
 }
 
@@ -31,5 +32,44 @@ pub enum AddAnswer {
 // What writing a log answers: the number of words written.
 pub enum WriteAnswer {
     Written(u32),
+    Refused(Refusal),
+}
+
+// What a yes-or-no question answers.
+pub enum AskAnswer {
+    Yes,
+    No,
+    Refused(Refusal),
+}
+
+// What a question for a tick answers: the tick, or that there is none.
+pub enum TickAnswer {
+    At(u32),
+    Nothing,
+    Refused(Refusal),
+}
+
+// Whether a set was found.
+pub enum SetAnswer {
+    Found,
+    Refused(Refusal),
+}
+
+// A set record: animal i is bit i mod 32 of word i/32, with the number of animals in it.
+pub struct AnimalSet {
+    pub words: [u32; 8],
+    pub count: u32,
+}
+
+// What the question for the animals reached answers; on a refusal all words and the count are 0.
+pub struct ReachedAnswer {
+    pub answer: SetAnswer,
+    pub set: AnimalSet,
+}
+
+// What the question for a chain answers: the number of its contacts, or that there is no journey.
+pub enum ChainAnswer {
+    Chain(u32),
+    NoJourney,
     Refused(Refusal),
 }

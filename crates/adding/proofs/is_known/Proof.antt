@@ -1,7 +1,5 @@
 -- `adding::is_known` meets its contract: the cell read is the one from u to v. Assumes nothing.
-use Prim.Native.Nat.{_+_}
 use mathlib.Core.Path.{ap, _∙_}
-use mathlib.Core.List.{List}
 use native.Mathlib.Omega.{arith}
 use borrow.Author.Needs.{needs}
 use Rattle.journeys.specs.Journey.{interval}

@@ -1,5 +1,4 @@
 -- `ends::arrival` meets its contract: the cell read is the one from v to y. Assumes nothing.
-use Prim.Native.Nat.{_+_}
 use native.Mathlib.Omega.{arith}
 use borrow.Author.Needs.{needs}
 use Rattle.adding.proofs.Places.{Place, place}

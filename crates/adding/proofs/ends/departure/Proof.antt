@@ -1,5 +1,4 @@
 -- `ends::departure` meets its contract: the cell read is the one from x to u. Assumes nothing.
-use Prim.Native.Nat.{_+_}
 use native.Mathlib.Omega.{arith}
 use borrow.Author.Needs.{needs}
 use Rattle.adding.proofs.Places.{Place, place}

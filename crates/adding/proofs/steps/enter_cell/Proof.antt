@@ -1,7 +1,6 @@
 -- `steps::enter_cell` meets its contract: each way through it is one turn. Assumes nothing.
 use mathlib.Core.Path.{sym, ap, _∙_}
 use mathlib.Core.Bool.{Bool, cond}
-use native.Mathlib.Omega.{arith}
 use borrow.Author.Needs.{needs}
 use Rattle.adding.proofs.Turns.{Turn, diagonal-turn, idle-turn, enter-turn}
 use Rattle.adding.proofs.steps.enter_cell.Statement.{statement}

@@ -1,0 +1,17 @@
+-- What the loop over a claimed chain tests.
+use Prim.Native.Nat.{ℕ, _+_}
+use mathlib.Core.Bool.{Bool, _&&_}
+use mathlib.Core.List.{List, [], _∷_}
+use lib.Dec.{leb, eqb}
+use Rattle.words.specs.Words.{contactOf}
+use Rattle.rules.specs.Layout.{carry}
+use Rattle.rules.specs.Claims.{heldWord, leavesFrom}
+
+-- The word's contact is held and leaves x at or after tick a.
+unfoldable pub goesOn : List ℕ → ℕ → ℕ → ℕ → Bool
+goesOn T x a w = heldWord T w && leavesFrom x a (contactOf w)
+
+-- The words, of which there may be none, lead on from x at tick a to v by last.
+unfoldable pub follows : List ℕ → ℕ → ℕ → ℕ → ℕ → List ℕ → Bool
+follows T v last x a [] = eqb x v && leb a last
+follows T v last x a (w ∷ ws) = goesOn T x a w && follows T v last (contactOf w .to) (contactOf w .tick + carry T) ws

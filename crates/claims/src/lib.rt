@@ -1,0 +1,64 @@
+// The check of a claimed chain.
+mod held;
+
+ghost use mathlib.Core.Path.{_≡_};
+ghost use Rattle.rules.specs.Checks.{Passes};
+ghost use Rattle.rules.specs.Claims.{spells, claimedAnswer};
+ghost use Rattle.claims.specs.Following.{follows};
+use rules::AskAnswer;
+use verdicts::Verdict;
+
+// Whether the words lead on from u at tick `first` to v by `last`, each a held contact that leaves where and when the one
+// before it has arrived.
+fn follows(table: &[u32], u: u32, v: u32, first: u32, last: u32, chain: &[u32]) -> bool
+    requires { ⌜ Passes (now table) ⌝ }
+    ensures { λ r. ⌜ r ≡ follows (now (table .entry)) v last u first (now (chain .entry)) ⌝ }
+{
+    let carry = words::carry_of(table[0]);
+    let mut x = u;
+    let mut a = first;
+    let mut i = 0;
+    while i < chain.len() {
+        let w = chain[i];
+        if !held::goes_on(table, w, x, a) {
+            return false;
+        }
+        x = words::to_of(w);
+        a = words::tick_of(w) + carry;
+        i += 1;
+    }
+    if x != v {
+        return false;
+    }
+    if last < a {
+        return false;
+    }
+    true
+}
+
+// Whether there are words and they form a journey of held contacts from u to v that fits the window.
+fn spells(table: &[u32], u: u32, v: u32, first: u32, last: u32, chain: &[u32]) -> bool
+    requires { ⌜ Passes (now table) ⌝ }
+    ensures { λ r. ⌜ r ≡ spells (now (table .entry)) v last u first (now (chain .entry)) ⌝ }
+{
+    if chain.len() == 0 {
+        return false;
+    }
+    follows(table, u, v, first, last, chain)
+}
+
+// Whether the words spell a journey of held contacts from u to v that fits the window. Refuses with 5, 6, 7, 8, 9.
+pub fn claimed(table: &[u32], u: u32, v: u32, first: u32, last: u32, chain: &[u32]) -> AskAnswer
+    ensures { λ r. ⌜ r ≡ claimedAnswer (now (table .entry)) u v first last (now (chain .entry)) ⌝ }
+{
+    let verdict = questions::judged::judge_reach(table, u, v, first, last);
+    match verdict {
+        Verdict::Refused(r) => AskAnswer::Refused(r),
+        Verdict::Passed => {
+            if spells(table, u, v, first, last, chain) {
+                return AskAnswer::Yes;
+            }
+            AskAnswer::No
+        }
+    }
+}

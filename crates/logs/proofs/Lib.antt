@@ -1,0 +1,4 @@
+pub mod Steps
+pub mod Placed
+pub mod Table
+pub mod Written

@@ -1,0 +1,4 @@
+pub mod Pairs
+pub mod Answered
+pub mod Passing
+pub mod Collecting

@@ -1,0 +1,144 @@
+// Questions about windows and ticks. Each checks in document 01's order, and its answer is that of its rule, for every
+// input.
+pub mod judged;
+mod sets;
+mod walks;
+
+ghost use mathlib.Core.Path.{_≡_};
+ghost use Prim.Native.Nat.{_<_};
+ghost use Rattle.journeys.specs.Cell.{latestDeparture, earliestArrival};
+ghost use Rattle.rules.specs.Layout.{animals, cellsOf};
+ghost use Rattle.rules.specs.Checks.{Passes};
+ghost use Rattle.rules.specs.Questions.{reaches, reachAnswer, earliestAnswer, latestAnswer, connectedAnswer, reachedAnswer, reachedWords, reachedCount};
+ghost use Rattle.cells.specs.Stored.{orZero};
+use rules::AskAnswer;
+use rules::ReachedAnswer;
+use rules::SetAnswer;
+use rules::TickAnswer;
+use verdicts::Verdict;
+
+// The earliest arrival in cell (u, v) with departure at least `first`, or 0 where there is none.
+fn first_arrival(table: &[u32], u: u32, v: u32, first: u32) -> u32
+    requires { ⌜ Passes (now table) ⌝ }
+    requires { ⌜ (u < animals (now table)) × (v < animals (now table)) ⌝ }
+    ensures { λ r. ⌜ r ≡ orZero (earliestArrival (cellsOf (now (table .entry)) u v) first) ⌝ }
+{
+    let w = table[0];
+    let n = words::animals_of(w) as usize;
+    let size = words::ticks_of(w) as usize + 1;
+    let at = 1 + (u as usize * n + v as usize) * size;
+    let end = at + size;
+    cells::earliest_arrival(&table[at..end], first)
+}
+
+// The latest departure in cell (u, v) with arrival at most `last`, or 0 where there is none.
+fn last_departure(table: &[u32], u: u32, v: u32, last: u32) -> u32
+    requires { ⌜ Passes (now table) ⌝ }
+    requires { ⌜ (u < animals (now table)) × (v < animals (now table)) ⌝ }
+    ensures { λ r. ⌜ r ≡ orZero (latestDeparture (cellsOf (now (table .entry)) u v) last) ⌝ }
+{
+    let w = table[0];
+    let n = words::animals_of(w) as usize;
+    let size = words::ticks_of(w) as usize + 1;
+    let at = 1 + (u as usize * n + v as usize) * size;
+    let end = at + size;
+    cells::latest_departure(&table[at..end], last)
+}
+
+// Whether a stored interval of the pair fits the window, on a table that passed its checks.
+pub fn reaches(table: &[u32], u: u32, v: u32, first: u32, last: u32) -> bool
+    requires { ⌜ Passes (now table) ⌝ }
+    requires { ⌜ (u < animals (now table)) × (v < animals (now table)) ⌝ }
+    ensures { λ r. ⌜ r ≡ reaches (now (table .entry)) u v first last ⌝ }
+{
+    let soonest = first_arrival(table, u, v, first);
+    if soonest == 0 {
+        return false;
+    }
+    soonest <= last
+}
+
+// Whether v can have been reached from u in the window. Refuses with 5, 6, 7, 8, 9.
+pub fn reach(table: &[u32], u: u32, v: u32, first: u32, last: u32) -> AskAnswer
+    ensures { λ r. ⌜ r ≡ reachAnswer (now (table .entry)) u v first last ⌝ }
+{
+    let verdict = judged::judge_reach(table, u, v, first, last);
+    match verdict {
+        Verdict::Refused(r) => AskAnswer::Refused(r),
+        Verdict::Passed => {
+            if reaches(table, u, v, first, last) {
+                return AskAnswer::Yes;
+            }
+            AskAnswer::No
+        }
+    }
+}
+
+// The earliest arrival from u at v of a journey that departs at or after `first`. Refuses with 5, 6, 7, 8, 9.
+pub fn earliest(table: &[u32], u: u32, v: u32, first: u32) -> TickAnswer
+    ensures { λ r. ⌜ r ≡ earliestAnswer (now (table .entry)) u v first ⌝ }
+{
+    let verdict = judged::judge_moment(table, u, v, first);
+    match verdict {
+        Verdict::Refused(r) => TickAnswer::Refused(r),
+        Verdict::Passed => {
+            let arrival = first_arrival(table, u, v, first);
+            if arrival == 0 {
+                return TickAnswer::Nothing;
+            }
+            TickAnswer::At(arrival)
+        }
+    }
+}
+
+// The latest departure from u of a journey that arrives at v by `last`. Refuses with 5, 6, 7, 8, 9.
+pub fn latest(table: &[u32], u: u32, v: u32, last: u32) -> TickAnswer
+    ensures { λ r. ⌜ r ≡ latestAnswer (now (table .entry)) u v last ⌝ }
+{
+    let verdict = judged::judge_moment(table, u, v, last);
+    match verdict {
+        Verdict::Refused(r) => TickAnswer::Refused(r),
+        Verdict::Passed => {
+            let departure = last_departure(table, u, v, last);
+            if departure == 0 {
+                return TickAnswer::Nothing;
+            }
+            TickAnswer::At(departure)
+        }
+    }
+}
+
+// Whether every ordered pair of different animals is reached in the window. Refuses with 5, 6, 9.
+pub fn connected(table: &[u32], first: u32, last: u32) -> AskAnswer
+    ensures { λ r. ⌜ r ≡ connectedAnswer (now (table .entry)) first last ⌝ }
+{
+    let verdict = judged::judge_connected(table, first, last);
+    match verdict {
+        Verdict::Refused(r) => AskAnswer::Refused(r),
+        Verdict::Passed => {
+            if walks::connects(table, first, last) {
+                return AskAnswer::Yes;
+            }
+            AskAnswer::No
+        }
+    }
+}
+
+// The animals reached from u in the window. Refuses with 5, 6, 7, 9.
+pub fn reached(table: &[u32], u: u32, first: u32, last: u32) -> ReachedAnswer
+    ensures { λ r. ⌜ r .answer ≡ reachedAnswer (now (table .entry)) u first last ⌝ }
+    ensures { λ r. ⌜ r .set .words ≡ reachedWords (now (table .entry)) u first last ⌝ }
+    ensures { λ r. ⌜ r .set .count ≡ reachedCount (now (table .entry)) u first last ⌝ }
+{
+    let verdict = judged::judge_reached(table, u, first, last);
+    match verdict {
+        Verdict::Refused(r) => ReachedAnswer {
+            answer: SetAnswer::Refused(r),
+            set: sets::empty(),
+        },
+        Verdict::Passed => ReachedAnswer {
+            answer: SetAnswer::Found,
+            set: sets::collect(table, u, first, last),
+        },
+    }
+}

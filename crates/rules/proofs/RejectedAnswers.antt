@@ -1,0 +1,107 @@
+-- Each wrong answer goes wrong on a fresh table, so it does not meet demand 2.
+use mathlib.Core.Path.{_≡_, refl, sym, ap, _∙_, subst}
+use mathlib.Core.Logic.{_↔_}
+use mathlib.Core.Bool.{Bool, true, false, cond}
+use mathlib.Core.List.{List, [], _∷_, List·Memᴰ, List·Memᴰ·not-nil}
+use Prim.Native.Nat.{ℕ, zero, suc, _+_, _≤_, _<_}
+use native.Mathlib.Omega.{arith}
+use lib.ListN.{length, getD, replicate}
+use Rattle.journeys.specs.Journey.{Contact, contact, Contacts}
+use Rattle.journeys.specs.Cell.{later, sooner, latestDeparture, earliestArrival, hasInside, withoutContaining, putInOrder, enter}
+use Rattle.journeys.specs.Adding.{departureOf, arrivalOf, enterBoth, add}
+use Rattle.words.specs.Layout.{isOf}
+use Rattle.rules.specs.declared.AskAnswer.{AskAnswer}
+use Rattle.rules.specs.declared.AskAnswer.the-variants.{Yes, No, Refused as AskRefused}
+use Rattle.rules.specs.declared.TickAnswer.{TickAnswer}
+use Rattle.rules.specs.declared.TickAnswer.the-variants.{At, Nothing, Refused as TickRefused}
+use Rattle.rules.specs.Folds.{flat, allBelow, sumBelow, countBelow}
+use Rattle.rules.specs.Layout.{cellWords, tableWords, cellAt, cellOf, cellsOf}
+use Rattle.rules.specs.Checks.{isOpen, fineRow, fineRows, allUnused, fineCell, wellFormed}
+use Rattle.rules.specs.Opening.{openRefusal, openLeaves}
+use Rattle.rules.specs.Adding.{addRefusal, addedCells, addLeaves}
+use Rattle.rules.specs.Questions.{reaches, reachRefusal, reachAnswer, momentRefusal, earliestAnswer, connects, connectedRefusal, connectedAnswer, isReached, setWord, setWords, reachedRefusal, reachedWords, reachedCount}
+use Rattle.rules.specs.Fresh.{Fresh}
+use Rattle.rules.specs.Demand3.{engine, run, tableAfter, LegalOf}
+use Rattle.rules.specs.Demand2.{Questions, questions, IsWindow, IsPair, Demand2, BitSet}
+use Rattle.rules.specs.WrongAnswers.{alwaysNo, alwaysYes, endsLater, beginsLater, neverArrives, alwaysConnected, reachesNobody, countsNobody, RejectedAnswers}
+use Rattle.rules.proofs.Runs.{run-fresh}
+use Rattle.rules.proofs.Demand2.{demand2}
+
+-- The table of two animals, two ticks and carry time 1 after the contact (0, 1, 1).
+abbrev table : List ℕ
+table = tableAfter engine 2 2 1 (replicate 13 0) (contact 0 1 1 ∷ [])
+
+table-fresh : Fresh 2 2 1 (LegalOf 2 2 (contact 0 1 1 ∷ [])) table
+unfolding openRefusal
+table-fresh = run-fresh 2 2 1 (replicate 13 0) (contact 0 1 1 ∷ []) refl
+
+pair : IsPair 2 0 1
+pair = record { from-below = omega arith; to-below = omega arith; apart = λ e. omega arith }
+
+windowed : (first last : ℕ) → 1 ≤ first → first ≤ last → last ≤ 3 → IsWindow 2 1 first last
+windowed first last h k l = record { from-one = h; in-order = k; to-last = omega arith }
+
+module _ (Q : Questions) (d : Demand2 Q) where
+  -- Questions that meet the demand answer yes on this table exactly where document 01's do.
+  same-reach : (first last : ℕ) → IsWindow 2 1 first last → (Q .reach table 0 1 first last ≡ Yes) ↔ (reachAnswer table 0 1 first last ≡ Yes)
+  same-reach first last w =
+      let a = d .reach-yes 2 2 1 (LegalOf 2 2 (contact 0 1 1 ∷ [])) table table-fresh 0 1 first last pair w in
+      let b = demand2 .reach-yes 2 2 1 (LegalOf 2 2 (contact 0 1 1 ∷ [])) table table-fresh 0 1 first last pair w in
+      (λ h. b .1 (a .0 h), λ h. a .1 (b .0 h))
+
+  same-earliest : (e : ℕ) → earliestAnswer table 0 1 1 ≡ At e → Q .earliest table 0 1 1 ≡ At e
+  same-earliest e h =
+      let a = d .earliest-at 2 2 1 (LegalOf 2 2 (contact 0 1 1 ∷ [])) table table-fresh 0 1 1 pair (omega arith) (omega arith) e in
+      let b = demand2 .earliest-at 2 2 1 (LegalOf 2 2 (contact 0 1 1 ∷ [])) table table-fresh 0 1 1 pair (omega arith) (omega arith) e in
+      a .1 (b .0 h)
+
+  same-connected : Q .connected table 1 3 ≡ Yes → connectedAnswer table 1 3 ≡ Yes
+  same-connected h =
+      let w = windowed 1 3 (omega arith) (omega arith) (omega arith) in
+      let a = d .connected-yes 2 2 1 (LegalOf 2 2 (contact 0 1 1 ∷ [])) table table-fresh 1 3 w in
+      let b = demand2 .connected-yes 2 2 1 (LegalOf 2 2 (contact 0 1 1 ∷ [])) table table-fresh 1 3 w in
+      b .1 (a .0 h)
+
+  same-bit : BitSet (reachedWords table 0 1 3) 1 → BitSet (Q .reached-words table 0 1 3) 1
+  same-bit h =
+      let w = windowed 1 3 (omega arith) (omega arith) (omega arith) in
+      let a = d .reached-bit 2 2 1 (LegalOf 2 2 (contact 0 1 1 ∷ [])) table table-fresh 0 1 3 (omega arith) w 1 (omega arith) in
+      let b = demand2 .reached-bit 2 2 1 (LegalOf 2 2 (contact 0 1 1 ∷ [])) table table-fresh 0 1 3 (omega arith) w 1 (omega arith) in
+      a .1 (b .0 h)
+
+  -- Somebody is reached, so the count is not 0.
+  some-counted : BitSet (reachedWords table 0 1 3) 1 → Q .reached-count table 0 1 3 ≡ 0 → ⊥
+  some-counted h e =
+      let w = windowed 1 3 (omega arith) (omega arith) (omega arith) in
+      let b = demand2 .reached-bit 2 2 1 (LegalOf 2 2 (contact 0 1 1 ∷ [])) table table-fresh 0 1 3 (omega arith) w 1 (omega arith) in
+      let c = d .reached-count 2 2 1 (LegalOf 2 2 (contact 0 1 1 ∷ [])) table table-fresh 0 1 3 (omega arith) w in
+      nobody (c .0) (sym (c .3) ∙ e) (c .2 1 .1 (b .0 h))
+    where
+      nobody : (l : List ℕ) → length l ≡ 0 → List·Memᴰ 1 l → ⊥
+      nobody [] q m = List·Memᴰ·not-nil m
+      nobody (a ∷ l) q m = omega arith
+
+-- Answers as numbers.
+abbrev told : AskAnswer → ℕ
+told Yes = 1
+told No = 2
+told (AskRefused r) = 0
+
+abbrev ticked : TickAnswer → ℕ
+ticked (At t) = suc t
+ticked Nothing = 0
+ticked (TickRefused r) = 0
+
+pub rejected-answers : RejectedAnswers
+unfolding openLeaves openRefusal tableWords flat cellWords run addLeaves addRefusal isOpen isOf wellFormed allBelow fineCell fineRows fineRow allUnused cellsOf cellAt cellOf addedCells add departureOf arrivalOf enterBoth enter putInOrder withoutContaining hasInside latestDeparture earliestArrival later sooner reaches reachRefusal reachAnswer momentRefusal earliestAnswer connects connectedRefusal connectedAnswer isReached setWord setWords sumBelow reachedRefusal reachedWords
+rejected-answers =
+    record {
+      always-no = λ d. (let z : _≡_ {A = ℕ} 2 1 = ap told (same-reach alwaysNo d 1 2 (windowed 1 2 (omega arith) (omega arith) (omega arith)) .1 refl) in omega arith);
+      always-yes = λ d. (let z : _≡_ {A = ℕ} 2 1 = ap told (same-reach alwaysYes d 1 1 (windowed 1 1 (omega arith) (omega arith) (omega arith)) .0 refl) in omega arith);
+      ends-later = λ d. (let z : _≡_ {A = ℕ} 2 1 = ap told (same-reach endsLater d 1 1 (windowed 1 1 (omega arith) (omega arith) (omega arith)) .0 refl) in omega arith);
+      begins-later = λ d. (let z : _≡_ {A = ℕ} 2 1 = ap told (same-reach beginsLater d 1 2 (windowed 1 2 (omega arith) (omega arith) (omega arith)) .1 refl) in omega arith);
+      never-arrives = λ d. (let z : _≡_ {A = ℕ} 0 3 = ap ticked (same-earliest neverArrives d 2 refl) in omega arith);
+      always-connected = λ d. (let z : _≡_ {A = ℕ} 2 1 = ap told (same-connected alwaysConnected d refl) in omega arith);
+      reaches-nobody = λ d. (let z : _≡_ {A = ℕ} 0 1 = same-bit reachesNobody d refl in omega arith);
+      counts-nobody = λ d. some-counted countsNobody d refl refl;
+    }

@@ -1,0 +1,87 @@
+-- The rule of the chain, said over a set S of contacts: which chain is shown.
+use Prim.Native.Nat.{ℕ, _+_, _≤_, _<_}
+use mathlib.Core.Path.{_≡_}
+use mathlib.Core.Logic.{_⊎_, _≢_}
+use mathlib.Core.List.{List, [], _∷_, List·Memᴰ}
+use mathlib.Core.Logic.{_↔_}
+use mathlib.Core.List.{_++_, map}
+use lib.ListN.{length, drop}
+use Rattle.journeys.specs.Journey.{Contact, contact, Contacts, Interval, interval, Journey}
+use Rattle.words.specs.Words.{contactWord}
+use Rattle.rules.specs.declared.ChainAnswer.the-variants.{Chain, NoJourney}
+use Rattle.rules.specs.Fresh.{Fresh}
+use Rattle.rules.specs.Demand2.{IsWindow, IsPair, Fits}
+use Rattle.rules.specs.declared.AskAnswer.the-variants.{Yes}
+use Rattle.rules.specs.Chains.{chainAnswer, chainLeaves}
+use Rattle.rules.specs.Claims.{claimedAnswer}
+
+module _ (S : Contacts) (δ goal b : ℕ) where
+  -- A journey from z to the goal leaves at or after a and arrives at b.
+  pub record Onward (z a : ℕ) : Type 0 where
+    pub departure : ℕ
+    pub leaves : a ≤ departure
+    pub journey : Journey S δ z goal (interval departure b)
+
+  -- From x, by a contact of S at departure d, the arrival b can still be had from z: z is the goal and d+δ is the arrival
+  -- kept, or a journey from z to the goal leaves at or after d+δ and arrives then.
+  pub record Candidate (x d z : ℕ) : Type 0 where
+    pub contact-held : S (contact x z d)
+    pub had : ((z ≡ goal) × (d + δ ≡ b)) ⊎ ((z ≢ goal) × Onward z (d + δ))
+
+  -- z is the lowest-numbered such animal.
+  pub record LowestCandidate (x d z : ℕ) : Type 0 where
+    pub is : Candidate x d z
+    pub lowest : (y : ℕ) → Candidate x d y → z ≤ y
+
+  -- e is the latest departure of the journeys from z to the goal that leave at or after a and arrive at b.
+  pub record LatestOnward (z a e : ℕ) : Type 0 where
+    pub leaves : a ≤ e
+    pub journey : Journey S δ z goal (interval e b)
+    pub latest : (p : ℕ) → a ≤ p → Journey S δ z goal (interval p b) → p ≤ e
+
+  -- The contacts are the chain from x with departure d: at each animal the lowest candidate, with the latest departure next.
+  pub data IsChain : ℕ → ℕ → List Contact → Type 0 where
+    last : {x d : ℕ} → LowestCandidate x d goal → d + δ ≡ b → IsChain x d (contact x goal d ∷ [])
+    next : {x d : ℕ} {l : List Contact} (z e : ℕ) → LowestCandidate x d z → z ≢ goal → LatestOnward z (d + δ) e → IsChain z e l → IsChain x d (contact x z d ∷ l)
+
+-- The contacts are the chain that document 01's rule names for u, v and the window: the arrival kept is the earliest of
+-- all fitting journeys, the first departure the latest among those.
+pub record NamedChain (S : Contacts) (δ u v first last : ℕ) (l : List Contact) : Type 0 where
+  pub arrival : ℕ
+  pub departure : ℕ
+  pub in-time : arrival ≤ last
+  pub leaves : first ≤ departure
+  pub journey : Journey S δ u v (interval departure arrival)
+  pub earliest : (i : Interval) → Journey S δ u v i → first ≤ i .departure → i .arrival ≤ last → arrival ≤ i .arrival
+  pub latest : (p : ℕ) → first ≤ p → Journey S δ u v (interval p arrival) → p ≤ departure
+  pub chain : IsChain S δ v arrival u departure l
+
+-- No number comes twice.
+abbrev pub Distinct : List ℕ → Type 0
+Distinct [] = Unit {0}
+Distinct (a ∷ l) = (¬ List·Memᴰ a l) × Distinct l
+
+-- The animals that the contacts of a chain leave from.
+abbrev pub leavers : List Contact → List ℕ
+leavers [] = []
+leavers (k ∷ l) = k .from ∷ leavers l
+
+-- "The chain shown for a yes is the one that document 01's rule names."
+pub record ChainShown : Type 1 where
+  -- A chain is named exactly when a journey fits, and only one.
+  pub named-when : (n τ δ : ℕ) (S : Contacts) (T : List ℕ) → Fresh n τ δ S T → (u v first last : ℕ) → IsPair n u v → IsWindow τ δ first last
+      → Fits S δ u v first last ↔ ((l : List Contact) × NamedChain S δ u v first last l)
+  pub one : (S : Contacts) (δ u v first last : ℕ) (l m : List Contact) → NamedChain S δ u v first last l → NamedChain S δ u v first last m → l ≡ m
+  -- It is the one shown: its number of contacts is the answer, and its words stand at the buffer's start.
+  pub shown : (n τ δ : ℕ) (S : Contacts) (T : List ℕ) → Fresh n τ δ S T → (u v first last : ℕ) → IsPair n u v → IsWindow τ δ first last → (B : List ℕ) → n ≤ length B + 1
+      → (l : List Contact) → NamedChain S δ u v first last l
+      → (chainAnswer T u v first last B ≡ Chain (length l)) × (chainLeaves T u v first last B ≡ map contactWord l ++ drop (length l) B)
+  -- Where no journey fits, the answer is "no journey" and the buffer keeps its words.
+  pub none-shown : (n τ δ : ℕ) (S : Contacts) (T : List ℕ) → Fresh n τ δ S T → (u v first last : ℕ) → IsPair n u v → IsWindow τ δ first last → (B : List ℕ) → n ≤ length B + 1
+      → (¬ Fits S δ u v first last) → (chainAnswer T u v first last B ≡ NoJourney) × (chainLeaves T u v first last B ≡ B)
+  -- No animal comes twice, the goal among them, so n−1 words are always enough.
+  pub no-animal-twice : (n τ δ : ℕ) (S : Contacts) (T : List ℕ) → Fresh n τ δ S T → (u v first last : ℕ) → IsPair n u v → (l : List Contact) → NamedChain S δ u v first last l → Distinct (v ∷ leavers l)
+  pub enough : (n τ δ : ℕ) (S : Contacts) (T : List ℕ) → Fresh n τ δ S T → (u v first last : ℕ) → IsPair n u v → (l : List Contact) → NamedChain S δ u v first last l → length l + 1 ≤ n
+  -- The chain shown, claimed, is answered yes.
+  pub claimed : (n τ δ : ℕ) (S : Contacts) (T : List ℕ) → Fresh n τ δ S T → (u v first last : ℕ) → IsPair n u v → IsWindow τ δ first last → (l : List Contact) → NamedChain S δ u v first last l
+      → claimedAnswer T u v first last (map contactWord l) ≡ Yes

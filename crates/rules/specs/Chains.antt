@@ -1,0 +1,114 @@
+-- The chain of a yes (document 01, "Questions").
+use Prim.Native.Nat.{ℕ, zero, suc, _+_, _-_}
+use mathlib.Core.Bool.{Bool, true, false, cond, _&&_}
+use mathlib.Core.Option.{Option, none, some}
+use mathlib.Core.List.{List, [], _∷_, _++_, map}
+use lib.ListN.{length, drop}
+use lib.Dec.{leb, eqb}
+use Rattle.journeys.specs.Journey.{Contact, contact, Interval}
+use Rattle.journeys.specs.Cell.{Cell, latestDeparture, earliestArrival}
+use Rattle.words.specs.Words.{contactWord}
+use Rattle.rules.specs.declared.Refusal.{Refusal}
+use Rattle.rules.specs.declared.Refusal.the-variants.{ChainBufferTooShort}
+use Rattle.rules.specs.declared.ChainAnswer.{ChainAnswer}
+use Rattle.rules.specs.declared.ChainAnswer.the-variants.{Chain, NoJourney, Refused}
+use Rattle.rules.specs.Answers.{ensure, unless}
+use Rattle.rules.specs.Layout.{animals, carry, cellsOf}
+use Rattle.rules.specs.Checks.{ensureTable}
+use Rattle.rules.specs.Adding.{ensurePair, holds}
+use Rattle.rules.specs.Questions.{ensureWindow}
+
+-- The departure of an interval of the cell with arrival b that departs at or after a, if any.
+unfoldable pub departureWith : ℕ → ℕ → Cell → Option ℕ
+departureWith a b [] = none
+departureWith a b (i ∷ c) = cond (eqb (i .arrival) b && leb a (i .departure)) (some (i .departure)) (departureWith a b c)
+
+-- Where a contact leads: nowhere, to the goal, or on, with the next departure.
+pub data Lead : Type 0 where
+  nowhere : Lead
+  there : Lead
+  onward : ℕ → Lead
+
+abbrev pub onwardFrom : Option ℕ → Lead
+onwardFrom none = nowhere
+onwardFrom (some d) = onward d
+
+-- Where the contact (x, z, d) leads, if the table holds it: the arrival b can still be had from z when its cell to the
+-- goal has an interval with that arrival, departing at or after this contact's arrival; the goal itself counts when this
+-- contact's arrival is b.
+unfoldable pub leads : List ℕ → ℕ → ℕ → ℕ → ℕ → ℕ → Lead
+leads T goal b x d z =
+    cond (holds T (contact x z d))
+    (cond (eqb z goal) (cond (eqb (d + carry T) b) there nowhere) (onwardFrom (departureWith (d + carry T) b (cellsOf T z goal))))
+    nowhere
+
+-- The lowest-numbered animal below m to which a contact leads, and where it leads.
+pub data Lowest : Type 0 where
+  nobody : Lowest
+  animal : ℕ → Lead → Lowest
+
+abbrev pub orElse : Lowest → ℕ → Lead → Lowest
+orElse nobody z nowhere = nobody
+orElse nobody z there = animal z there
+orElse nobody z (onward d) = animal z (onward d)
+orElse (animal y l) z k = animal y l
+
+unfoldable pub lowest : (ℕ → Lead) → ℕ → Lowest
+lowest f zero = nobody
+lowest f (suc m) = orElse (lowest f m) m (f m)
+
+-- The contact before the rest of a chain, if there is one.
+abbrev pub before : Contact → Option (List Contact) → Option (List Contact)
+before k none = none
+before k (some l) = some (k ∷ l)
+
+-- The chain that leaves x at d for the animal found; `rest` gives the chain from an animal with its departure.
+abbrev pub follow : ℕ → ℕ → Lowest → (ℕ → ℕ → Option (List Contact)) → Option (List Contact)
+follow x d nobody rest = none
+follow x d (animal z nowhere) rest = none
+follow x d (animal z there) rest = some (contact x z d ∷ [])
+follow x d (animal z (onward e)) rest = before (contact x z d) (rest z e)
+
+-- The chain from x with departure d to the goal with arrival b, of at most `most` contacts; none where it sticks or
+-- needs more.
+unfoldable pub chainFrom : List ℕ → ℕ → ℕ → ℕ → ℕ → ℕ → Option (List Contact)
+chainFrom T goal b zero x d = none
+chainFrom T goal b (suc most) x d = follow x d (lowest (leads T goal b x d) (animals T)) (chainFrom T goal b most)
+
+-- From the departure, if there is one.
+abbrev pub fromDeparture : Option ℕ → (ℕ → Option (List Contact)) → Option (List Contact)
+fromDeparture none g = none
+fromDeparture (some d) g = g d
+
+-- With the arrival, if there is one by the last tick.
+abbrev pub withArrival : Option ℕ → ℕ → (ℕ → Option (List Contact)) → Option (List Contact)
+withArrival none last g = none
+withArrival (some b) last g = cond (leb b last) (g b) none
+
+-- Among fitting journeys the earliest arrival, then the latest departure; then from animal to animal. It never has more
+-- than n−1 contacts.
+unfoldable pub chainOf : List ℕ → ℕ → ℕ → ℕ → ℕ → Option (List Contact)
+chainOf T u v first last =
+    withArrival (earliestArrival (cellsOf T u v) first) last
+    (λ b. fromDeparture (latestDeparture (cellsOf T u v) b) (λ d. chainFrom T v b (animals T - 1) u d))
+
+-- 10 when the buffer is shorter than n−1 words, before the question whether there is a journey.
+unfoldable pub chainRefusal : List ℕ → ℕ → ℕ → ℕ → ℕ → List ℕ → Option Refusal
+chainRefusal T u v first last B =
+    ensureTable T (ensurePair T u v (ensureWindow T first last (ensure (leb (animals T - 1) (length B)) ChainBufferTooShort none)))
+
+abbrev pub chainAnswerOf : Option Refusal → Option (List Contact) → ChainAnswer
+chainAnswerOf none none = NoJourney
+chainAnswerOf none (some l) = Chain (length l)
+chainAnswerOf (some r) l = Refused r
+
+unfoldable pub chainAnswer : List ℕ → ℕ → ℕ → ℕ → ℕ → List ℕ → ChainAnswer
+chainAnswer T u v first last B = chainAnswerOf (chainRefusal T u v first last B) (chainOf T u v first last)
+
+-- The contact words of the chain from the buffer's start; words behind a chain keep theirs, and all where there is none.
+abbrev pub chainWords : Option (List Contact) → List ℕ → List ℕ
+chainWords none B = B
+chainWords (some l) B = map contactWord l ++ drop (length l) B
+
+unfoldable pub chainLeaves : List ℕ → ℕ → ℕ → ℕ → ℕ → List ℕ → List ℕ
+chainLeaves T u v first last B = unless (chainRefusal T u v first last B) (chainWords (chainOf T u v first last) B) B

@@ -1,0 +1,126 @@
+-- Questions about windows and ticks (document 01, "Questions"). Stored intervals stand for the journeys.
+use Prim.Native.Nat.{ℕ, _+_, _-_, _*_, _^_}
+use mathlib.Core.Bool.{Bool, true, false, cond, not, _&&_, _||_}
+use mathlib.Core.Option.{Option, none, some}
+use mathlib.Core.List.{List, [], _∷_}
+use lib.ListN.{replicate}
+use lib.Dec.{leb, ltb, eqb}
+use Rattle.journeys.specs.Journey.{Interval, interval}
+use Rattle.journeys.specs.Cell.{hasInside, latestDeparture, earliestArrival}
+use Rattle.rules.specs.declared.Refusal.{Refusal}
+use Rattle.rules.specs.declared.Refusal.the-variants.{NoSuchAnimal, TickOutOfRange}
+use Rattle.rules.specs.declared.AskAnswer.{AskAnswer}
+use Rattle.rules.specs.declared.TickAnswer.{TickAnswer}
+use Rattle.rules.specs.declared.SetAnswer.{SetAnswer}
+use Rattle.rules.specs.declared.SetAnswer.the-variants.{Found, Refused}
+use Rattle.rules.specs.Answers.{ensure, unless, askAnswerOf, tickAnswerOf}
+use Rattle.rules.specs.Folds.{allBelow, sumBelow, countBelow, within}
+use Rattle.rules.specs.Layout.{animals, ticks, carry, cellsOf}
+use Rattle.rules.specs.Checks.{ensureTable}
+use Rattle.rules.specs.Adding.{ensurePair}
+
+-- ---- windows and ticks
+
+-- Arrivals run to τ+δ.
+abbrev pub lastArrival : List ℕ → ℕ
+lastArrival T = ticks T + carry T
+
+-- A journey fits a window when its interval lies inside this one: it departs at or after first and arrives by last.
+abbrev pub window : ℕ → ℕ → Interval
+window first last = interval first last
+
+-- The ticks of a window are 1 to τ+δ.
+abbrev pub windowInRange : List ℕ → ℕ → ℕ → Bool
+windowInRange T first last = within 1 first (lastArrival T) && within 1 last (lastArrival T)
+
+-- First is not after last.
+abbrev pub inOrder : ℕ → ℕ → Bool
+inOrder first last = leb first last
+
+-- A window: 9 when a tick is out of range, or first is after last.
+abbrev pub ensureWindow : List ℕ → ℕ → ℕ → Option Refusal → Option Refusal
+ensureWindow T first last o = ensure (windowInRange T first last) TickOutOfRange (ensure (inOrder first last) TickOutOfRange o)
+
+-- A single tick, of earliest arrival and latest departure: 9 when it is not 1 to τ+δ.
+abbrev pub ensureMoment : List ℕ → ℕ → Option Refusal → Option Refusal
+ensureMoment T t o = ensure (within 1 t (lastArrival T)) TickOutOfRange o
+
+-- One animal: 7 when its number is n or above.
+abbrev pub ensureAnimal : List ℕ → ℕ → Option Refusal → Option Refusal
+ensureAnimal T u o = ensure (ltb u (animals T)) NoSuchAnimal o
+
+-- ---- reach
+
+-- A stored interval of the pair fits the window.
+unfoldable pub reaches : List ℕ → ℕ → ℕ → ℕ → ℕ → Bool
+reaches T u v first last = hasInside (window first last) (cellsOf T u v)
+
+unfoldable pub reachRefusal : List ℕ → ℕ → ℕ → ℕ → ℕ → Option Refusal
+reachRefusal T u v first last = ensureTable T (ensurePair T u v (ensureWindow T first last none))
+
+unfoldable pub reachAnswer : List ℕ → ℕ → ℕ → ℕ → ℕ → AskAnswer
+reachAnswer T u v first last = askAnswerOf (reachRefusal T u v first last) (reaches T u v first last)
+
+-- ---- earliest arrival from a first tick, latest departure by a last tick
+
+unfoldable pub momentRefusal : List ℕ → ℕ → ℕ → ℕ → Option Refusal
+momentRefusal T u v t = ensureTable T (ensurePair T u v (ensureMoment T t none))
+
+unfoldable pub earliestAnswer : List ℕ → ℕ → ℕ → ℕ → TickAnswer
+earliestAnswer T u v first = tickAnswerOf (momentRefusal T u v first) (earliestArrival (cellsOf T u v) first)
+
+unfoldable pub latestAnswer : List ℕ → ℕ → ℕ → ℕ → TickAnswer
+latestAnswer T u v last = tickAnswerOf (momentRefusal T u v last) (latestDeparture (cellsOf T u v) last)
+
+-- ---- connected
+
+-- Every ordered pair of different animals is reached in the window.
+unfoldable pub connects : List ℕ → ℕ → ℕ → Bool
+connects T first last = allBelow (λ u. allBelow (λ v. eqb u v || reaches T u v first last) (animals T)) (animals T)
+
+unfoldable pub connectedRefusal : List ℕ → ℕ → ℕ → Option Refusal
+connectedRefusal T first last = ensureTable T (ensureWindow T first last none)
+
+unfoldable pub connectedAnswer : List ℕ → ℕ → ℕ → AskAnswer
+connectedAnswer T first last = askAnswerOf (connectedRefusal T first last) (connects T first last)
+
+-- ---- reached from u
+
+-- Animal i is in the set: another than u, and reached from it.
+unfoldable pub isReached : List ℕ → ℕ → ℕ → ℕ → ℕ → Bool
+isReached T u first last i = ltb i (animals T) && not (eqb u i) && reaches T u i first last
+
+-- Word j of the set: animal i is bit i mod 32 of word i/32.
+unfoldable pub setWord : List ℕ → ℕ → ℕ → ℕ → ℕ → ℕ
+setWord T u first last j = sumBelow (λ b. cond (isReached T u first last (j * 32 + b)) (2 ^ b) 0) 32
+
+-- Its eight words.
+unfoldable pub setWords : List ℕ → ℕ → ℕ → ℕ → List ℕ
+setWords T u first last =
+    setWord T u first last 0
+    ∷ setWord T u first last 1
+    ∷ setWord T u first last 2
+    ∷ setWord T u first last 3
+    ∷ setWord T u first last 4
+    ∷ setWord T u first last 5
+    ∷ setWord T u first last 6
+    ∷ setWord T u first last 7
+    ∷ []
+
+unfoldable pub reachedRefusal : List ℕ → ℕ → ℕ → ℕ → Option Refusal
+reachedRefusal T u first last = ensureTable T (ensureAnimal T u (ensureWindow T first last none))
+
+abbrev pub setAnswerOf : Option Refusal → SetAnswer
+setAnswerOf none = Found
+setAnswerOf (some r) = Refused r
+
+unfoldable pub reachedAnswer : List ℕ → ℕ → ℕ → ℕ → SetAnswer
+reachedAnswer T u first last = setAnswerOf (reachedRefusal T u first last)
+
+-- The set's words; all 0 on a refusal.
+unfoldable pub reachedWords : List ℕ → ℕ → ℕ → ℕ → List ℕ
+reachedWords T u first last = unless (reachedRefusal T u first last) (setWords T u first last) (replicate 8 0)
+
+-- Its number of animals; 0 on a refusal.
+unfoldable pub reachedCount : List ℕ → ℕ → ℕ → ℕ → ℕ
+reachedCount T u first last = unless (reachedRefusal T u first last) (countBelow (isReached T u first last) (animals T)) 0
