@@ -3,13 +3,15 @@
 ghost use mathlib.Core.Path.{_≡_};
 ghost use Prim.Native.Nat.{_<_};
 ghost use Rattle.journeys.specs.Journey.{contact};
-ghost use Rattle.rules.specs.Answers.{numberOf, reply, openReply, addReply, writeReply, askReply};
+ghost use Rattle.rules.specs.Answers.{numberOf, reply, openReply, addReply, writeReply, askReply, chainReply};
 ghost use Rattle.rules.specs.Opening.{openAnswer, openLeaves};
 ghost use Rattle.rules.specs.Adding.{addAnswer, addLeaves};
 ghost use Rattle.rules.specs.Logs.{writeAnswer, writeLeaves};
 ghost use Rattle.rules.specs.Questions.{reachAnswer};
+ghost use Rattle.rules.specs.Chains.{chainAnswer, chainLeaves};
 use rules::AddAnswer;
 use rules::AskAnswer;
+use rules::ChainAnswer;
 use rules::OpenAnswer;
 use rules::Refusal;
 use rules::WriteAnswer;
@@ -90,5 +92,26 @@ pub extern "C" fn herd_reach(table: &[u32], u: u32, v: u32, first: u32, last: u3
         AskAnswer::Yes => reply_of(1, 0),
         AskAnswer::No => reply_of(2, 0),
         AskAnswer::Refused(r) => reply_of(0, number_of(r)),
+    }
+}
+
+// Writes the chain from u to v in a window: 1 a chain, with the number of its contacts, 2 no journey, 0 refused.
+#[no_mangle]
+pub extern "C" fn herd_chain(
+    table: &[u32],
+    u: u32,
+    v: u32,
+    first: u32,
+    last: u32,
+    buffer: &mut [u32],
+) -> u64
+    ensures { λ r. ⌜ r ≡ chainReply (chainAnswer (now (table .entry)) u v first last (now (buffer .entry))) ⌝ }
+    ensures { λ _. ⌜ now (buffer .exit) ≡ chainLeaves (now (table .entry)) u v first last (now (buffer .entry)) ⌝ }
+{
+    let answer = chains::chain(table, u, v, first, last, buffer);
+    match answer {
+        ChainAnswer::Chain(k) => reply_of(1, k),
+        ChainAnswer::NoJourney => reply_of(2, 0),
+        ChainAnswer::Refused(r) => reply_of(0, number_of(r)),
     }
 }

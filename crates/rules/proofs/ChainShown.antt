@@ -22,20 +22,22 @@ use Rattle.rules.specs.declared.ChainAnswer.the-variants.{Chain, NoJourn
 use Rattle.rules.specs.Answers.{ensure}
 use Rattle.rules.specs.Layout.{animals, cellsOf}
 use Rattle.rules.specs.Chains.{fromDeparture, withArrival, chainFrom, chainOf, chainRefusal, chainAnswer, chainLeaves}
-use Rattle.rules.specs.ChainRule.{IsChain, NamedChain, Distinct, leavers, ChainShown}
+use Rattle.rules.specs.ChainRule.{IsChain, NamedChain, Distinct, leavers, NamedChains}
 use Rattle.rules.specs.declared.AskAnswer.the-variants.{Yes}
+use Rattle.rules.specs.Questions.{reachAnswer}
 use Rattle.rules.specs.Claims.{claimedAnswer}
 use Rattle.rules.specs.Fresh.{Fresh}
-use Rattle.rules.specs.Demand2.{IsWindow, IsPair, Fits, Earliest, Latest}
+use Rattle.rules.specs.Fitting.{IsWindow, IsPair, Fits}
+use Rattle.rules.specs.Demand2.{Earliest, Latest}
 use Rattle.rules.proofs.Judged.{ensure-iff}
 use Rattle.rules.proofs.Fresh.{fresh-animals}
 use Rattle.rules.proofs.Asked.{asked-with}
-use Rattle.rules.proofs.Demand2.{earliest-some, earliest-fits, latest-some, latest-fits}
+use Rattle.rules.proofs.Answered.{reach-yes, earliest-some, earliest-fits, latest-some, latest-fits}
 use Rattle.rules.proofs.Chains.{chain-unique, chain-sound, chain-complete, chain-distinct, chain-journey, chain-below}
 use Rattle.rules.proofs.Distinct.{distinct-few}
 use Rattle.rules.proofs.Claims.{claims-judged}
 
-one-chain : (S : Contacts) (δ u v first last : ℕ) (l m : List Contact) → NamedChain S δ u v first last l → NamedChain S δ u v first last m → l ≡ m
+pub one-chain : (S : Contacts) (δ u v first last : ℕ) (l m : List Contact) → NamedChain S δ u v first last l → NamedChain S δ u v first last m → l ≡ m
 one-chain S δ u v first last l m p q =
     let a : p .arrival ≡ q .arrival = omega (arith, p .earliest (interval (q .departure) (q .arrival)) (q .journey) (q .leaves) (q .in-time), q .earliest (interval (p .departure) (p .arrival)) (p .journey) (p .leaves) (p .in-time)) in
     let j : Journey S δ u v (interval (p .departure) (q .arrival)) = subst (λ b. Journey S δ u v (interval (p .departure) b)) a (p .journey) in
@@ -135,7 +137,7 @@ module _ {n τ δ : ℕ} {S : Contacts} {T : List ℕ} (f : Fresh n τ δ S T) (
         asked-with f u v first last p w _
         (ensure-iff (leb (animals T - 1) (length B)) ChainBufferTooShort none .1 (le-leb (animals T - 1) (length B) (omega (arith, fresh-animals f)), refl))
 
-    chain-is-shown : (l : List Contact) → NamedChain S δ u v first last l
+    pub chain-is-shown : (l : List Contact) → NamedChain S δ u v first last l
         → (chainAnswer T u v first last B ≡ Chain (length l)) × (chainLeaves T u v first last B ≡ map contactWord l ++ drop (length l) B)
     unfolding chainAnswer chainLeaves Result
     chain-is-shown l c =
@@ -143,13 +145,32 @@ module _ {n τ δ : ℕ} {S : Contacts} {T : List ℕ} (f : Fresh n τ δ S T) (
         let q : chainOf T u v first last ≡ some l = r .1 ∙ ap some (one-chain S δ u v first last (r .0) l (r .2) c) in
         (rw (chain-asked, q) refl, rw (chain-asked, q) refl)
 
-    none-is-shown : (¬ Fits S δ u v first last) → (chainAnswer T u v first last B ≡ NoJourney) × (chainLeaves T u v first last B ≡ B)
+    pub none-is-shown : (¬ Fits S δ u v first last) → (chainAnswer T u v first last B ≡ NoJourney) × (chainLeaves T u v first last B ≡ B)
     unfolding chainAnswer chainLeaves
     none-is-shown k = let q = chain-none k in (rw (chain-asked, q) refl, rw (chain-asked, q) refl)
 
-  named-when : Fits S δ u v first last ↔ ((l : List Contact) × NamedChain S δ u v first last l)
+  pub named-when : Fits S δ u v first last ↔ ((l : List Contact) × NamedChain S δ u v first last l)
   unfolding Result
   named-when = (λ k. let r = chain-found k in (r .0, r .2), λ r. chain-fits (r .0) (r .1))
+
+  -- A chain is given exactly when reach says yes.
+  given-when : IsWindow τ δ first last → (reachAnswer T u v first last ≡ Yes) ↔ ((l : List Contact) × (chainOf T u v first last ≡ some l))
+  unfolding Result chainOf
+  given-when w = (
+    λ e. let r = chain-found (reach-yes f u v first last p w .0 e) in (r .0, r .1),
+    λ r. reach-yes f u v first last p w .1 (given (r .0) (r .1)),
+  )
+    where
+      given : (l : List Contact) → chainOf T u v first last ≡ some l → Fits S δ u v first last
+      given l e = earliest-fits f u v p first last .0 (by-last (earliestArrival (cellsOf T u v) first) e)
+        where
+          in-time : (b : ℕ) → {t : Bool} → Outcome (b ≤ last) (last < b) t → cond t (arriving b) none ≡ some l → b ≤ last
+          in-time b (holds h) e = h
+          in-time b (fails h) e = absurd (let z : _≡_ {A = ℕ} 0 1 = cc in omega arith)
+
+          by-last : (o : Option ℕ) → withArrival o last arriving ≡ some l → NotAfter last o
+          by-last none e = absurd (let z : _≡_ {A = ℕ} 0 1 = cc in omega arith)
+          by-last (some b) e = in-time b (le-outcome b last) e
 
 -- ---- the animals of the chain named
 
@@ -183,14 +204,11 @@ module _ {n τ δ : ℕ} {S : Contacts} {T : List ℕ} (f : Fresh n τ δ S T) (
       claims-judged .yes-when n τ δ S T f u v first last p w (map contactWord l) .1
       (record { taken = interval (c .departure) (c .arrival); journey = r .0; departs = c .leaves; arrives = c .in-time; words = ap (map contactWord) (sym (r .1)) })
 
-pub chain-shown : ChainShown
-chain-shown =
+pub named-chains : NamedChains
+named-chains =
     record {
-      named-when = λ n τ δ S T f u v first last p w. named-when f u v first last p;
-      one = one-chain;
-      shown = λ n τ δ S T f u v first last p w B h. chain-is-shown f u v first last p w B h;
-      none-shown = λ n τ δ S T f u v first last p w B h. none-is-shown f u v first last p w B h;
       no-animal-twice = λ n τ δ S T f u v first last p l c. twice-none f u v first last p l c;
       enough = λ n τ δ S T f u v first last p l c. words-enough f u v first last p l c;
       claimed = λ n τ δ S T f u v first last p w l c. claimed-yes f u v first last p l c w;
+      given-when = λ n τ δ S T f u v first last p w. given-when f u v first last p w;
     }

@@ -19,7 +19,7 @@ use Rattle.rules.specs.Adding.{Legal}
 use Rattle.rules.specs.Adding as Adding
 use Rattle.rules.specs.Claims.{heldWord, leavesFrom, spells, claimedAnswer, contactsOf, SpellsJourney, ClaimsJudged}
 use Rattle.rules.specs.Fresh.{Fresh}
-use Rattle.rules.specs.Demand2.{IsWindow, IsPair}
+use Rattle.rules.specs.Fitting.{IsWindow, IsPair}
 use Rattle.rules.proofs.Folds.{and-left, and-right, and-intro}
 use Rattle.rules.proofs.Fresh.{fresh-animals, fresh-carry}
 use Rattle.rules.proofs.Held.{fresh-holds}

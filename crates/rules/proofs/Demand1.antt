@@ -1,23 +1,25 @@
 -- Demand 1 holds of the rules.
 use mathlib.Core.Path.{_≡_, refl, sym, ap, _∙_, subst}
-use mathlib.Core.Bool.{Bool, true, false, cond}
+use mathlib.Core.Bool.{Bool, true, false, cond, not, _&&_}
 use mathlib.Core.Option.{Option, none, some}
 use mathlib.Core.List.{List, [], _∷_, _++_, map}
-use Prim.Native.Nat.{ℕ, _+_, _≤_, _<_}
+use Prim.Native.Nat.{ℕ, zero, suc, _+_, _-_, _≤_, _<_}
 use native.Mathlib.Omega.{arith}
 use lib.ListN.{length, getD, drop, length-append, length-map, length-drop, replicate}
-use lib.Dec.{leb}
+use lib.Dec.{leb, ltb, eqb}
 use borrow.Author.Tests.{leb-true}
-use Rattle.journeys.specs.Journey.{Contact}
+use Rattle.journeys.specs.Journey.{Contact, contact}
+use Rattle.journeys.specs.Cell.{latestDeparture, earliestArrival}
 use Rattle.journeys.specs.Adding.{Cells, add}
 use Rattle.rules.specs.declared.Refusal.{Refusal}
 use Rattle.rules.specs.declared.OpenAnswer.{OpenAnswer}
 use Rattle.rules.specs.declared.OpenAnswer.the-variants.{Opened, Refused as OpenRefused}
 use Rattle.rules.specs.declared.AddAnswer.{AddAnswer}
 use Rattle.rules.specs.declared.AddAnswer.the-variants.{New, Known, Refused as AddRefused}
-use Rattle.rules.specs.declared.Refusal.the-variants.{NotOpen, NotWellFormed, LogBufferTooShort}
+use Rattle.rules.specs.declared.Refusal.the-variants.{NotOpen, NotWellFormed, NoSuchAnimal, SameAnimal, TickOutOfRange, ChainBufferTooShort, LogBufferTooShort}
 use Rattle.rules.specs.declared.WriteAnswer.the-variants.{Written, Refused as WriteRefused}
 use Rattle.rules.specs.declared.SetAnswer.the-variants.{Refused as SetRefused}
+use Rattle.rules.specs.declared.ChainAnswer.the-variants.{Chain, NoJourney, Refused as ChainRefused}
 use Rattle.words.specs.Words.{contactWord, endWord}
 use Rattle.rules.specs.Answers.{unless, openAnswerOf, addAnswerOf, writeAnswerOf}
 use Rattle.rules.specs.Layout.{tableLength, tableWords, animals, ticks, carry, cellsOf}
@@ -26,7 +28,8 @@ use Rattle.rules.specs.Opening.{openRefusal, openAnswer, openLeaves}
 use Rattle.rules.specs.Adding.{Legal, addRefusal, addedCells, holds, cellsChanged, addAnswer, addLeaves}
 use Rattle.rules.specs.Logs.{heldContacts, logWords, writeRefusal, writeAnswer, writeLeaves}
 use Rattle.rules.specs.Folds.{countBelow}
-use Rattle.rules.specs.Questions.{setAnswerOf, isReached, setWords, reachedRefusal, reachedAnswer, reachedWords, reachedCount}
+use Rattle.rules.specs.Questions.{windowInRange, inOrder, setAnswerOf, isReached, setWords, reachedRefusal, reachedAnswer, reachedWords, reachedCount}
+use Rattle.rules.specs.Chains.{nowhere, there, onward, leads, Lowest, nobody, animal, lowest, before, follow, chainFrom, fromDeparture, withArrival, chainOf, chainRefusal, chainAnswerOf, chainAnswer, chainWords, chainLeaves}
 use Rattle.rules.specs.Demand1.{Demand1}
 use Rattle.rules.proofs.Decode.{Good, table-length, table-passes}
 use Rattle.rules.proofs.Sound.{table-sizes, passes-good, opens-length}
@@ -147,6 +150,75 @@ reached-empty T u first last r = go (reachedRefusal T u first last)
     go none e = absurd (let z : _≡_ {A = ℕ} 0 1 = cc in omega arith)
     go (some s) e = (refl, refl)
 
+-- ---- the chain
+
+abbrev size : Option (List Contact) → ℕ
+size none = 0
+size (some l) = length l
+
+-- A chain of at most so many contacts has no more.
+chain-short : (T : List ℕ) (goal b most x d : ℕ) → size (chainFrom T goal b most x d) ≤ most
+unfolding chainFrom
+chain-short T goal b zero x d = omega arith
+chain-short T goal b (suc most) x d = go (lowest (leads T goal b x d) (animals T)) (chain-short T goal b most)
+  where
+    behind : (k : Contact) (o : Option (List Contact)) → size o ≤ most → size (before k o) ≤ suc most
+    behind k none h = omega arith
+    behind k (some l) h = omega arith
+
+    go : (o : Lowest) → ((z e : ℕ) → size (chainFrom T goal b most z e) ≤ most) → size (follow x d o (chainFrom T goal b most)) ≤ suc most
+    go nobody h = omega arith
+    go (animal z nowhere) h = omega arith
+    go (animal z there) h = omega arith
+    go (animal z (onward e)) h = behind (contact x z d) (chainFrom T goal b most z e) (h z e)
+
+-- A chain has at most n−1 contacts.
+chain-fits : (T : List ℕ) (u v first last : ℕ) → size (chainOf T u v first last) ≤ animals T - 1
+unfolding chainOf
+chain-fits T u v first last = arriving (earliestArrival (cellsOf T u v) first)
+  where
+    leaving : (b : ℕ) (o : Option ℕ) → size (fromDeparture o (λ d. chainFrom T v b (animals T - 1) u d)) ≤ animals T - 1
+    leaving b none = omega arith
+    leaving b (some d) = chain-short T v b (animals T - 1) u d
+
+    by-last : (t : Bool) (o : Option (List Contact)) → size o ≤ animals T - 1 → size (cond t o none) ≤ animals T - 1
+    by-last true o h = h
+    by-last false o h = omega arith
+
+    arriving : (o : Option ℕ) → size (withArrival o last (λ b. fromDeparture (latestDeparture (cellsOf T u v) b) (λ d. chainFrom T v b (animals T - 1) u d))) ≤ animals T - 1
+    arriving none = omega arith
+    arriving (some b) = by-last (leb b last) _ (leaving b (latestDeparture (cellsOf T u v) b))
+
+chain-kept : (T : List ℕ) (u v first last : ℕ) (B : List ℕ) (r : Refusal) → chainAnswer T u v first last B ≡ ChainRefused r → chainLeaves T u v first last B ≡ B
+unfolding chainAnswer chainLeaves
+chain-kept T u v first last B r = go (chainRefusal T u v first last B) (chainOf T u v first last)
+  where
+    go : (o : Option Refusal) (c : Option (List Contact)) → chainAnswerOf o c ≡ ChainRefused r → unless o (chainWords c B) B ≡ B
+    go none none e = refl
+    go none (some l) e = absurd (let z : _≡_ {A = ℕ} 0 1 = cc in omega arith)
+    go (some s) c e = refl
+
+-- A chain that is shown has room in its buffer.
+chain-room : (T : List ℕ) (u v first last : ℕ) (B : List ℕ) → chainRefusal T u v first last B ≡ none → animals T - 1 ≤ length B
+unfolding chainRefusal
+chain-room T u v first last B e =
+    let p = ensure-iff (isOpen T) NotOpen _ .0 e in
+    let q = ensure-iff (wellFormed T) NotWellFormed _ .0 (p .1) in
+    let a = ensure-iff (ltb u (animals T) && ltb v (animals T)) NoSuchAnimal _ .0 (q .1) in
+    let b = ensure-iff (not (eqb u v)) SameAnimal _ .0 (a .1) in
+    let c = ensure-iff (windowInRange T first last) TickOutOfRange _ .0 (b .1) in
+    let d = ensure-iff (inOrder first last) TickOutOfRange _ .0 (c .1) in
+    leb-true (animals T - 1) (length B) (ensure-iff (leb (animals T - 1) (length B)) ChainBufferTooShort none .0 (d .1) .0)
+
+chain-length : (T : List ℕ) (u v first last : ℕ) (B : List ℕ) → length (chainLeaves T u v first last B) ≡ length B
+unfolding chainLeaves
+chain-length T u v first last B = go (chainRefusal T u v first last B) (chainOf T u v first last) (chain-room T u v first last B) (chain-fits T u v first last)
+  where
+    go : (o : Option Refusal) (c : Option (List Contact)) → (o ≡ none → animals T - 1 ≤ length B) → size c ≤ animals T - 1 → length (unless o (chainWords c B) B) ≡ length B
+    go none none h k = refl
+    go none (some l) h k = length-append (map contactWord l) (drop (length l) B) ∙ omega (arith, h refl, length-map l contactWord, length-drop (length l) B)
+    go (some r) c h k = refl
+
 pub demand1 : Demand1
 demand1 =
     record {
@@ -154,9 +226,11 @@ demand1 =
       add-refused = add-kept;
       write-refused = write-kept;
       reached-refused = reached-empty;
+      chain-refused = chain-kept;
       open-length = open-length;
       add-length = add-length;
       write-length = write-length;
+      chain-length = chain-length;
       open-passes = open-passes;
       add-passes = add-passes;
       legal-accepted = λ T k p l r e. add-accepted T k r e (add-iff T k .1 (p, l));

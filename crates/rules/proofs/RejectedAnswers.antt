@@ -10,6 +10,7 @@ use Rattle.journeys.specs.Journey.{Contact, contact, Contacts}
 use Rattle.journeys.specs.Cell.{later, sooner, latestDeparture, earliestArrival, hasInside, withoutContaining, putInOrder, enter}
 use Rattle.journeys.specs.Adding.{departureOf, arrivalOf, enterBoth, add}
 use Rattle.words.specs.Layout.{isOf}
+use Rattle.words.specs.Words.{contactOf}
 use Rattle.rules.specs.declared.AskAnswer.{AskAnswer}
 use Rattle.rules.specs.declared.AskAnswer.the-variants.{Yes, No, Refused as AskRefused}
 use Rattle.rules.specs.declared.TickAnswer.{TickAnswer}
@@ -18,12 +19,15 @@ use Rattle.rules.specs.Folds.{flat, allBelow, sumBelow, countBelow}
 use Rattle.rules.specs.Layout.{cellWords, tableWords, cellAt, cellOf, cellsOf}
 use Rattle.rules.specs.Checks.{isOpen, fineRow, fineRows, allUnused, fineCell, wellFormed}
 use Rattle.rules.specs.Opening.{openRefusal, openLeaves}
-use Rattle.rules.specs.Adding.{addRefusal, addedCells, addLeaves}
+use Rattle.rules.specs.Adding.{stands, addRefusal, addedCells, addLeaves}
+use Rattle.rules.specs.Adding as Adding
+use Rattle.rules.specs.Chains.{departureWith, leads, lowest, chainFrom, chainOf, chainRefusal, chainLeaves}
 use Rattle.rules.specs.Questions.{reaches, reachRefusal, reachAnswer, momentRefusal, earliestAnswer, connects, connectedRefusal, connectedAnswer, isReached, setWord, setWords, reachedRefusal, reachedWords, reachedCount}
 use Rattle.rules.specs.Fresh.{Fresh}
 use Rattle.rules.specs.Demand3.{engine, run, tableAfter, LegalOf}
-use Rattle.rules.specs.Demand2.{Questions, questions, IsWindow, IsPair, Demand2, BitSet}
-use Rattle.rules.specs.WrongAnswers.{alwaysNo, alwaysYes, endsLater, beginsLater, neverArrives, alwaysConnected, reachesNobody, countsNobody, RejectedAnswers}
+use Rattle.rules.specs.Fitting.{IsWindow, IsPair}
+use Rattle.rules.specs.Demand2.{Questions, questions, Demand2, BitSet}
+use Rattle.rules.specs.WrongAnswers.{alwaysNo, alwaysYes, endsLater, beginsLater, neverArrives, alwaysConnected, reachesNobody, countsNobody, firstOf, chainFromOf, downFrom, neverChained, highestAnimal, loadingOrder, RejectedAnswers}
 use Rattle.rules.proofs.Runs.{run-fresh}
 use Rattle.rules.proofs.Demand2.{demand2}
 
@@ -81,6 +85,31 @@ module _ (Q : Questions) (d : Demand2 Q) where
       nobody [] q m = List·Memᴰ·not-nil m
       nobody (a ∷ l) q m = omega arith
 
+-- The table of four animals, two ticks and carry time 1 on which 3 is reached from 0 at tick 3 by way of 1 and of 2.
+abbrev loaded : List Contact
+loaded = contact 0 2 1 ∷ contact 0 1 1 ∷ contact 2 3 2 ∷ contact 1 3 2 ∷ []
+
+abbrev forked : List ℕ
+forked = tableAfter engine 4 2 1 (replicate 49 0) loaded
+
+forked-fresh : Fresh 4 2 1 (LegalOf 4 2 loaded) forked
+unfolding openRefusal
+forked-fresh = run-fresh 4 2 1 (replicate 49 0) loaded refl
+
+module _ (Q : Questions) (d : Demand2 Q) where
+  -- Questions that meet the demand leave on this table the chain of document 01.
+  same-chain : reachAnswer forked 0 3 1 3 ≡ Yes → Q .chain-leaves forked 0 3 1 3 (replicate 3 0) ≡ chainLeaves forked 0 3 1 3 (replicate 3 0)
+  same-chain h =
+      let p : IsPair 4 0 3 = record { from-below = omega arith; to-below = omega arith; apart = λ e. omega arith } in
+      let w : IsWindow 2 1 1 3 = record { from-one = omega arith; in-order = omega arith; to-last = omega arith } in
+      let k = demand2 .chain-named 4 2 1 (LegalOf 4 2 loaded) forked forked-fresh 0 3 1 3 p .0 (demand2 .reach-yes 4 2 1 (LegalOf 4 2 loaded) forked forked-fresh 0 3 1 3 p w .0 h) in
+      d .chain-shown 4 2 1 (LegalOf 4 2 loaded) forked forked-fresh 0 3 1 3 p w (replicate 3 0) (omega arith) (k .0) (k .1) .1
+      ∙ sym (demand2 .chain-shown 4 2 1 (LegalOf 4 2 loaded) forked forked-fresh 0 3 1 3 p w (replicate 3 0) (omega arith) (k .0) (k .1) .1)
+
+-- The animal that the first contact word of a buffer leads to.
+abbrev goesTo : List ℕ → ℕ
+goesTo B = contactOf (getD B 0 0) .to
+
 -- Answers as numbers.
 abbrev told : AskAnswer → ℕ
 told Yes = 1
@@ -93,7 +122,7 @@ ticked Nothing = 0
 ticked (TickRefused r) = 0
 
 pub rejected-answers : RejectedAnswers
-unfolding openLeaves openRefusal tableWords flat cellWords run addLeaves addRefusal isOpen isOf wellFormed allBelow fineCell fineRows fineRow allUnused cellsOf cellAt cellOf addedCells add departureOf arrivalOf enterBoth enter putInOrder withoutContaining hasInside latestDeparture earliestArrival later sooner reaches reachRefusal reachAnswer momentRefusal earliestAnswer connects connectedRefusal connectedAnswer isReached setWord setWords sumBelow reachedRefusal reachedWords
+unfolding openLeaves openRefusal tableWords flat cellWords run addLeaves addRefusal isOpen isOf wellFormed allBelow fineCell fineRows fineRow allUnused cellsOf cellAt cellOf addedCells add departureOf arrivalOf enterBoth enter putInOrder withoutContaining hasInside latestDeparture earliestArrival later sooner reaches reachRefusal reachAnswer momentRefusal earliestAnswer connects connectedRefusal connectedAnswer isReached setWord setWords sumBelow reachedRefusal reachedWords departureWith leads lowest chainFrom chainOf chainRefusal chainLeaves firstOf chainFromOf downFrom stands Adding.holds
 rejected-answers =
     record {
       always-no = λ d. (let z : _≡_ {A = ℕ} 2 1 = ap told (same-reach alwaysNo d 1 2 (windowed 1 2 (omega arith) (omega arith) (omega arith)) .1 refl) in omega arith);
@@ -104,4 +133,7 @@ rejected-answers =
       always-connected = λ d. (let z : _≡_ {A = ℕ} 2 1 = ap told (same-connected alwaysConnected d refl) in omega arith);
       reaches-nobody = λ d. (let z : _≡_ {A = ℕ} 0 1 = same-bit reachesNobody d refl in omega arith);
       counts-nobody = λ d. some-counted countsNobody d refl refl;
+      never-chained = λ d. (let z : _≡_ {A = ℕ} 0 1 = ap goesTo (same-chain neverChained d refl) in omega arith);
+      highest-animal = λ d. (let z : _≡_ {A = ℕ} 2 1 = ap goesTo (same-chain highestAnimal d refl) in omega arith);
+      loading-order = λ d. (let z : _≡_ {A = ℕ} 2 1 = ap goesTo (same-chain (loadingOrder loaded) (d loaded) refl) in omega arith);
     }

@@ -14,6 +14,8 @@ use Rattle.rules.specs.declared.AskAnswer.{AskAnswer}
 use Rattle.rules.specs.declared.AskAnswer.the-variants.{Yes, No, Refused as AskRefused}
 use Rattle.rules.specs.declared.TickAnswer.{TickAnswer}
 use Rattle.rules.specs.declared.TickAnswer.the-variants.{At, Nothing, Refused as TickRefused}
+use Rattle.rules.specs.declared.ChainAnswer.{ChainAnswer}
+use Rattle.rules.specs.declared.ChainAnswer.the-variants.{Chain, NoJourney, Refused as ChainRefused}
 
 -- The number of a refusal (document 01, "Where each check sits").
 abbrev pub numberOf : Refusal → ℕ
@@ -50,6 +52,11 @@ abbrev pub askReply : AskAnswer → ℕ
 askReply Yes = reply 1 0
 askReply No = reply 2 0
 askReply (AskRefused r) = reply 0 (numberOf r)
+
+abbrev pub chainReply : ChainAnswer → ℕ
+chainReply (Chain k) = reply 1 k
+chainReply NoJourney = reply 2 0
+chainReply (ChainRefused r) = reply 0 (numberOf r)
 
 -- ---- checks in their order
 

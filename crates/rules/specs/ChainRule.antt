@@ -1,18 +1,17 @@
 -- The rule of the chain, said over a set S of contacts: which chain is shown.
 use Prim.Native.Nat.{ℕ, _+_, _≤_, _<_}
 use mathlib.Core.Path.{_≡_}
-use mathlib.Core.Logic.{_⊎_, _≢_}
-use mathlib.Core.List.{List, [], _∷_, List·Memᴰ}
-use mathlib.Core.Logic.{_↔_}
-use mathlib.Core.List.{_++_, map}
-use lib.ListN.{length, drop}
+use mathlib.Core.Logic.{_↔_, _⊎_, _≢_}
+use mathlib.Core.List.{List, [], _∷_, map, List·Memᴰ}
+use mathlib.Core.Option.{Option, some}
+use lib.ListN.{length}
 use Rattle.journeys.specs.Journey.{Contact, contact, Contacts, Interval, interval, Journey}
 use Rattle.words.specs.Words.{contactWord}
-use Rattle.rules.specs.declared.ChainAnswer.the-variants.{Chain, NoJourney}
 use Rattle.rules.specs.Fresh.{Fresh}
-use Rattle.rules.specs.Demand2.{IsWindow, IsPair, Fits}
+use Rattle.rules.specs.Fitting.{IsWindow, IsPair}
 use Rattle.rules.specs.declared.AskAnswer.the-variants.{Yes}
-use Rattle.rules.specs.Chains.{chainAnswer, chainLeaves}
+use Rattle.rules.specs.Questions.{reachAnswer}
+use Rattle.rules.specs.Chains.{chainOf}
 use Rattle.rules.specs.Claims.{claimedAnswer}
 
 module _ (S : Contacts) (δ goal b : ℕ) where
@@ -66,22 +65,14 @@ abbrev pub leavers : List Contact → List ℕ
 leavers [] = []
 leavers (k ∷ l) = k .from ∷ leavers l
 
--- "The chain shown for a yes is the one that document 01's rule names."
-pub record ChainShown : Type 1 where
-  -- A chain is named exactly when a journey fits, and only one.
-  pub named-when : (n τ δ : ℕ) (S : Contacts) (T : List ℕ) → Fresh n τ δ S T → (u v first last : ℕ) → IsPair n u v → IsWindow τ δ first last
-      → Fits S δ u v first last ↔ ((l : List Contact) × NamedChain S δ u v first last l)
-  pub one : (S : Contacts) (δ u v first last : ℕ) (l m : List Contact) → NamedChain S δ u v first last l → NamedChain S δ u v first last m → l ≡ m
-  -- It is the one shown: its number of contacts is the answer, and its words stand at the buffer's start.
-  pub shown : (n τ δ : ℕ) (S : Contacts) (T : List ℕ) → Fresh n τ δ S T → (u v first last : ℕ) → IsPair n u v → IsWindow τ δ first last → (B : List ℕ) → n ≤ length B + 1
-      → (l : List Contact) → NamedChain S δ u v first last l
-      → (chainAnswer T u v first last B ≡ Chain (length l)) × (chainLeaves T u v first last B ≡ map contactWord l ++ drop (length l) B)
-  -- Where no journey fits, the answer is "no journey" and the buffer keeps its words.
-  pub none-shown : (n τ δ : ℕ) (S : Contacts) (T : List ℕ) → Fresh n τ δ S T → (u v first last : ℕ) → IsPair n u v → IsWindow τ δ first last → (B : List ℕ) → n ≤ length B + 1
-      → (¬ Fits S δ u v first last) → (chainAnswer T u v first last B ≡ NoJourney) × (chainLeaves T u v first last B ≡ B)
+-- What else holds of the chain named on a fresh table.
+pub record NamedChains : Type 1 where
   -- No animal comes twice, the goal among them, so n−1 words are always enough.
   pub no-animal-twice : (n τ δ : ℕ) (S : Contacts) (T : List ℕ) → Fresh n τ δ S T → (u v first last : ℕ) → IsPair n u v → (l : List Contact) → NamedChain S δ u v first last l → Distinct (v ∷ leavers l)
   pub enough : (n τ δ : ℕ) (S : Contacts) (T : List ℕ) → Fresh n τ δ S T → (u v first last : ℕ) → IsPair n u v → (l : List Contact) → NamedChain S δ u v first last l → length l + 1 ≤ n
   -- The chain shown, claimed, is answered yes.
   pub claimed : (n τ δ : ℕ) (S : Contacts) (T : List ℕ) → Fresh n τ δ S T → (u v first last : ℕ) → IsPair n u v → IsWindow τ δ first last → (l : List Contact) → NamedChain S δ u v first last l
       → claimedAnswer T u v first last (map contactWord l) ≡ Yes
+  -- A chain is given exactly when reach says yes.
+  pub given-when : (n τ δ : ℕ) (S : Contacts) (T : List ℕ) → Fresh n τ δ S T → (u v first last : ℕ) → IsPair n u v → IsWindow τ δ first last
+      → (reachAnswer T u v first last ≡ Yes) ↔ ((l : List Contact) × (chainOf T u v first last ≡ some l))

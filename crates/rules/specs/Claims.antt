@@ -16,7 +16,7 @@ use Rattle.rules.specs.Layout.{animals, carry}
 use Rattle.rules.specs.Adding.{holds}
 use Rattle.rules.specs.Questions.{reachRefusal}
 use Rattle.rules.specs.Fresh.{Fresh}
-use Rattle.rules.specs.Demand2.{IsWindow, IsPair}
+use Rattle.rules.specs.Fitting.{IsWindow, IsPair}
 
 -- The word is a contact word whose contact the table holds; one with an animal n or above is a contact that it does not hold.
 unfoldable pub heldWord : List ℕ → ℕ → Bool

@@ -2,21 +2,27 @@
 use Prim.Native.Nat.{ℕ, _+_, _/_, _%_, _^_, _≤_, _<_}
 use mathlib.Core.Path.{_≡_}
 use mathlib.Core.Logic.{_↔_, _≢_}
-use mathlib.Core.List.{List, List·Memᴰ}
-use lib.ListN.{length, getD}
-use Rattle.journeys.specs.Journey.{Contacts, Interval, interval, Journey, Minimal}
+use mathlib.Core.List.{List, _++_, map, List·Memᴰ}
+use lib.ListN.{length, getD, drop}
+use Rattle.journeys.specs.Journey.{Contact, Contacts, Interval, interval, Journey, Minimal}
 use Rattle.rules.specs.declared.AskAnswer.{AskAnswer}
 use Rattle.rules.specs.declared.AskAnswer.the-variants.{Yes, No}
 use Rattle.rules.specs.declared.TickAnswer.{TickAnswer}
 use Rattle.rules.specs.declared.TickAnswer.the-variants.{At, Nothing}
+use Rattle.words.specs.Words.{contactWord}
 use Rattle.rules.specs.declared.SetAnswer.{SetAnswer}
 use Rattle.rules.specs.declared.SetAnswer.the-variants.{Found}
+use Rattle.rules.specs.declared.ChainAnswer.{ChainAnswer}
+use Rattle.rules.specs.declared.ChainAnswer.the-variants.{Chain, NoJourney}
 use Rattle.rules.specs.Layout.{cellsOf}
 use Rattle.rules.specs.Questions.{reachAnswer, earliestAnswer, latestAnswer, connectedAnswer, reachedAnswer, reachedWords, reachedCount}
 use Rattle.rules.specs.Fresh.{Fresh}
 use Rattle.rules.specs.Demand3.{Sorted}
+use Rattle.rules.specs.Fitting.{IsWindow, IsPair, Fits}
+use Rattle.rules.specs.Chains.{chainAnswer, chainLeaves}
+use Rattle.rules.specs.ChainRule.{NamedChain}
 
--- What the questions answer.
+-- What the questions answer, and the words that a chain leaves in its buffer.
 pub record Questions : Type 0 where
   pub reach : List ℕ → ℕ → ℕ → ℕ → ℕ → AskAnswer
   pub earliest : List ℕ → ℕ → ℕ → ℕ → TickAnswer
@@ -25,6 +31,8 @@ pub record Questions : Type 0 where
   pub reached : List ℕ → ℕ → ℕ → ℕ → SetAnswer
   pub reached-words : List ℕ → ℕ → ℕ → ℕ → List ℕ
   pub reached-count : List ℕ → ℕ → ℕ → ℕ → ℕ
+  pub chain : List ℕ → ℕ → ℕ → ℕ → ℕ → List ℕ → ChainAnswer
+  pub chain-leaves : List ℕ → ℕ → ℕ → ℕ → ℕ → List ℕ → List ℕ
 
 -- The questions of document 01: the definitions that their contracts cite.
 abbrev pub questions : Questions
@@ -37,28 +45,11 @@ questions =
       reached = reachedAnswer;
       reached-words = reachedWords;
       reached-count = reachedCount;
+      chain = chainAnswer;
+      chain-leaves = chainLeaves;
     }
 
 -- ---- the words of the demand
-
--- A window is first and last, 1 ≤ first ≤ last ≤ τ+δ.
-pub record IsWindow (τ δ first last : ℕ) : Type 0 where
-  pub from-one : 1 ≤ first
-  pub in-order : first ≤ last
-  pub to-last : last ≤ τ + δ
-
--- Two different animals below n.
-pub record IsPair (n u v : ℕ) : Type 0 where
-  pub from-below : u < n
-  pub to-below : v < n
-  pub apart : u ≢ v
-
--- A journey from u to v fits the window: it departs at or after first and arrives by last.
-pub record Fits (S : Contacts) (δ u v first last : ℕ) : Type 0 where
-  pub taken : Interval
-  pub journey : Journey S δ u v taken
-  pub departs : first ≤ taken .departure
-  pub arrives : taken .arrival ≤ last
 
 -- Tick e is the least arrival of the journeys from u to v that depart at or after first.
 pub record Earliest (S : Contacts) (δ u v first e : ℕ) : Type 0 where
@@ -122,3 +113,14 @@ pub record Demand2 (Q : Questions) : Type 1 where
       → (i : ℕ) → i < 256 → BitSet (Q .reached-words T u first last) i ↔ ReachedFrom S δ n u first last i
   pub reached-count : (n τ δ : ℕ) (S : Contacts) (T : List ℕ) → Fresh n τ δ S T → (u first last : ℕ) → u < n → IsWindow τ δ first last
       → (l : List ℕ) × Sorted _<_ l × ((i : ℕ) → List·Memᴰ i l ↔ ReachedFrom S δ n u first last i) × (Q .reached-count T u first last ≡ length l)
+  -- "The chain shown for a yes is the one that document 01's rule names": a chain is named exactly when a journey fits,
+  -- and only one; its number of contacts is the answer, and its words stand at the buffer's start.
+  pub chain-named : (n τ δ : ℕ) (S : Contacts) (T : List ℕ) → Fresh n τ δ S T → (u v first last : ℕ) → IsPair n u v
+      → Fits S δ u v first last ↔ ((l : List Contact) × NamedChain S δ u v first last l)
+  pub chain-one : (S : Contacts) (δ u v first last : ℕ) (l m : List Contact) → NamedChain S δ u v first last l → NamedChain S δ u v first last m → l ≡ m
+  pub chain-shown : (n τ δ : ℕ) (S : Contacts) (T : List ℕ) → Fresh n τ δ S T → (u v first last : ℕ) → IsPair n u v → IsWindow τ δ first last → (B : List ℕ) → n ≤ length B + 1
+      → (l : List Contact) → NamedChain S δ u v first last l
+      → (Q .chain T u v first last B ≡ Chain (length l)) × (Q .chain-leaves T u v first last B ≡ map contactWord l ++ drop (length l) B)
+  -- Where no journey fits, the answer is "no journey" and the buffer keeps its words.
+  pub chain-none : (n τ δ : ℕ) (S : Contacts) (T : List ℕ) → Fresh n τ δ S T → (u v first last : ℕ) → IsPair n u v → IsWindow τ δ first last → (B : List ℕ) → n ≤ length B + 1
+      → (¬ Fits S δ u v first last) → (Q .chain T u v first last B ≡ NoJourney) × (Q .chain-leaves T u v first last B ≡ B)

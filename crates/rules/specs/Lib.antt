@@ -10,10 +10,11 @@ pub mod Chains
 pub mod Fresh
 pub mod Demand1
 pub mod Demand3
-pub mod Demand2
+pub mod Fitting
 pub mod Determined
 pub mod Wrong
-pub mod WrongAnswers
 pub mod Claims
 pub mod ChainRule
+pub mod Demand2
 pub mod Examples
+pub mod WrongAnswers

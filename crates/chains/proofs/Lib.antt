@@ -1,0 +1,4 @@
+pub mod Lending
+pub mod Leading
+pub mod Walking
+pub mod Replies

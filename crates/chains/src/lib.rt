@@ -1,0 +1,111 @@
+// The chain of a yes: document 01's rule from animal to animal, collected in a local array and written when it is whole.
+mod pairs;
+mod steps;
+
+ghost use mathlib.Core.Path.{_≡_};
+ghost use Prim.Native.Nat.{_<_, _≤_};
+ghost use mathlib.Core.List.{_++_};
+ghost use lib.ListN.{length, take, drop};
+ghost use Rattle.rules.specs.Layout.{animals};
+ghost use Rattle.rules.specs.Checks.{Passes};
+ghost use Rattle.rules.specs.Chains.{chainOf, chainAnswer, chainLeaves};
+ghost use Rattle.verdicts.specs.Verdicts.{verdictOf};
+ghost use Rattle.chains.specs.Found.{wordsOf, collected, roomCheck, chainChecks};
+use rules::ChainAnswer;
+use rules::Refusal;
+use steps::Steps;
+use verdicts::Verdict;
+
+// Check 10, of a buffer with room for so many words.
+fn judge_room(table: &[u32], room: usize) -> Verdict
+    requires { ⌜ 1 ≤ length (now table) ⌝ }
+    ensures { λ r. ⌜ r ≡ verdictOf (roomCheck (now (table .entry)) room) ⌝ }
+{
+    let n = words::animals_of(table[0]) as usize;
+    if room < n - 1 {
+        return Verdict::Refused(Refusal::ChainBufferTooShort);
+    }
+    Verdict::Passed
+}
+
+// Writes the first words of the chain to the front of the buffer.
+fn write_front(buffer: &mut [u32], from: [u32; 255], count: usize)
+    requires { ⌜ (count ≤ length (now buffer)) × (count ≤ 255) × (length from ≡ 255) ⌝ }
+    ensures { λ _. ⌜ now (buffer .exit) ≡ take count from ++ drop count (now (buffer .entry)) ⌝ }
+{
+    for i in 0..count {
+        buffer[i] = from[i];
+    }
+}
+
+// All checks of a chain, in their order, with a buffer of `room` words.
+fn judge_chain(table: &[u32], u: u32, v: u32, first: u32, last: u32, room: usize) -> Verdict
+    ensures { λ r. ⌜ r ≡ verdictOf (chainChecks (now (table .entry)) u v first last room) ⌝ }
+{
+    let whole = verdicts::judge_table(table);
+    match whole {
+        Verdict::Refused(r) => Verdict::Refused(r),
+        Verdict::Passed => {
+            let pair = verdicts::judge_pair(table, u, v);
+            match pair {
+                Verdict::Refused(r) => Verdict::Refused(r),
+                Verdict::Passed => {
+                    let window = verdicts::judge_window(table, first, last);
+                    match window {
+                        Verdict::Refused(r) => Verdict::Refused(r),
+                        Verdict::Passed => judge_room(table, room),
+                    }
+                }
+            }
+        }
+    }
+}
+
+// The chain from u to v in the window, on a table that passed its checks.
+fn find(table: &[u32], u: u32, v: u32, first: u32, last: u32) -> Steps
+    requires { ⌜ Passes (now table) ⌝ }
+    requires { ⌜ (u < animals (now table)) × (v < animals (now table)) ⌝ }
+    ensures { λ r. ⌜ collected (r .found) (r .count) (r .words) ≡ wordsOf (chainOf (now (table .entry)) u v first last) ⌝ }
+    ensures { λ r. ⌜ (r .count < animals (now (table .entry))) × (length (r .words) ≡ 255) ⌝ }
+{
+    let arrival = pairs::first_arrival(table, u, v, first);
+    if arrival == 0 {
+        return steps::none();
+    }
+    if last < arrival {
+        return steps::none();
+    }
+    let departure = pairs::last_departure(table, u, v, arrival);
+    if departure == 0 {
+        return steps::none();
+    }
+    steps::collect(table, v, arrival, u, departure)
+}
+
+// Writes the contact words of the chain from u to v in the window to the front of the buffer, and answers their number;
+// where there is no journey the buffer keeps its words. Refuses with 5, 6, 7, 8, 9, 10.
+pub fn chain(
+    table: &[u32],
+    u: u32,
+    v: u32,
+    first: u32,
+    last: u32,
+    buffer: &mut [u32],
+) -> ChainAnswer
+    ensures { λ r. ⌜ r ≡ chainAnswer (now (table .entry)) u v first last (now (buffer .entry)) ⌝ }
+    ensures { λ _. ⌜ now (buffer .exit) ≡ chainLeaves (now (table .entry)) u v first last (now (buffer .entry)) ⌝ }
+{
+    let verdict = judge_chain(table, u, v, first, last, buffer.len());
+    match verdict {
+        Verdict::Refused(r) => ChainAnswer::Refused(r),
+        Verdict::Passed => {
+            let steps = find(table, u, v, first, last);
+            if !steps.found {
+                return ChainAnswer::NoJourney;
+            }
+            let kept = steps.words;
+            write_front(buffer, kept, steps.count);
+            ChainAnswer::Chain(steps.count as u32)
+        }
+    }
+}

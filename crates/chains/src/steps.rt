@@ -1,0 +1,119 @@
+// From animal to animal: where a contact leads, the lowest-numbered animal to which one leads, and the chain.
+ghost use mathlib.Core.Path.{_≡_};
+ghost use mathlib.Core.Bool.{false};
+ghost use Prim.Native.Nat.{_-_, _<_, _≤_};
+ghost use lib.ListN.{length};
+ghost use Rattle.rules.specs.Layout.{animals};
+ghost use Rattle.rules.specs.Checks.{Passes};
+ghost use Rattle.rules.specs.Chains.{leads, lowest, chainFrom};
+ghost use Rattle.chains.specs.Found.{leadOf, lowestOf, wordsOf, collected};
+
+// Whether a contact leads on, and the next departure; 0 at the goal.
+struct Way {
+    on: bool,
+    next: u32,
+}
+
+// Whether a contact leads to an animal, to which, and the next departure from it; 0 at the goal.
+struct Next {
+    found: bool,
+    animal: u32,
+    next: u32,
+}
+
+// Whether a chain was found, the number of its contacts, and their words at the front.
+pub(crate) struct Steps {
+    pub(crate) found: bool,
+    pub(crate) count: usize,
+    pub(crate) words: [u32; 255],
+}
+
+// No chain.
+pub(crate) fn none() -> Steps
+    ensures { λ r. ⌜ (r .found ≡ false) × (r .count ≡ 0) × (length (r .words) ≡ 255) ⌝ }
+{
+    Steps {
+        found: false,
+        count: 0,
+        words: [0u32; 255],
+    }
+}
+
+// Where the contact (x, z, d) leads towards the goal with arrival b.
+fn lead(table: &[u32], goal: u32, b: u32, x: u32, d: u32, z: u32) -> Way
+    requires { ⌜ Passes (now table) ⌝ }
+    requires { ⌜ (x < animals (now table)) × (z < animals (now table)) × (goal < animals (now table)) × (d ≤ 1024) ⌝ }
+    ensures { λ r. ⌜ leadOf (r .on) (r .next) ≡ leads (now (table .entry)) goal b x d z ⌝ }
+{
+    let a = d + words::carry_of(table[0]);
+    if !crate::pairs::stands(table, x, z, d, a) {
+        return Way { on: false, next: 0 };
+    }
+    if z == goal {
+        return Way {
+            on: a == b,
+            next: 0,
+        };
+    }
+    let next = crate::pairs::departure_with(table, z, goal, a, b);
+    Way {
+        on: 0 < next,
+        next: next,
+    }
+}
+
+// The lowest-numbered animal to which a contact of x at d leads.
+fn lowest(table: &[u32], goal: u32, b: u32, x: u32, d: u32) -> Next
+    requires { ⌜ Passes (now table) ⌝ }
+    requires { ⌜ (x < animals (now table)) × (goal < animals (now table)) × (d ≤ 1024) ⌝ }
+    ensures { λ r. ⌜ lowestOf (r .found) (r .animal) (r .next) ≡ lowest (leads (now (table .entry)) goal b x d) (animals (now (table .entry))) ⌝ }
+{
+    let n = words::animals_of(table[0]);
+    for z in 0..n {
+        let step = lead(table, goal, b, x, d, z);
+        if step.on {
+            return Next {
+                found: true,
+                animal: z,
+                next: step.next,
+            };
+        }
+    }
+    Next {
+        found: false,
+        animal: 0,
+        next: 0,
+    }
+}
+
+// The chain from u with departure d to the goal with arrival b.
+pub(crate) fn collect(table: &[u32], goal: u32, b: u32, u: u32, d: u32) -> Steps
+    requires { ⌜ Passes (now table) ⌝ }
+    requires { ⌜ (u < animals (now table)) × (goal < animals (now table)) × (1 ≤ d) × (d ≤ 1024) ⌝ }
+    ensures { λ r. ⌜ collected (r .found) (r .count) (r .words) ≡ wordsOf (chainFrom (now (table .entry)) goal b (animals (now (table .entry)) - 1) u d) ⌝ }
+    ensures { λ r. ⌜ (r .count < animals (now (table .entry))) × (length (r .words) ≡ 255) ⌝ }
+{
+    let n = words::animals_of(table[0]) as usize;
+    let mut kept = [0u32; 255];
+    let mut x = u;
+    let mut t = d;
+    let mut k = 0;
+    while k + 1 < n {
+        let step = lowest(table, goal, b, x, t);
+        if !step.found {
+            return none();
+        }
+        kept[k] = words::contact_word(x, step.animal, t);
+        k += 1;
+        if step.next == 0 {
+            return Steps {
+                found: true,
+                count: k,
+                words: kept,
+            };
+        }
+        x = step.animal;
+        t = step.next;
+    }
+    none()
+}
