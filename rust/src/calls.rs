@@ -2,9 +2,10 @@
 
 use crate::check;
 use crate::ffi::chain::Chain;
-use crate::ffi::log::Written;
+use crate::ffi::log::{Read, Written};
 use crate::ffi::reach::Reach;
 use crate::ffi::{Added, Opened};
+use crate::model::{self, Contacts};
 use crate::rule;
 use crate::words::{self, Contact, Opening};
 
@@ -39,6 +40,22 @@ pub fn add(table: &[u32], u: u32, v: u32, t: u32) -> (Added, Vec<u32>) {
         Ok((opening, cells, contact)) => {
             let (after, answer) = rule::add(opening, &cells, contact);
             (answer, words::table(opening, &after))
+        }
+    }
+}
+
+/// Reading the log into the table of these words.
+pub fn read_log(log: &[u32], table: &[u32]) -> (Read, Vec<u32>) {
+    let checked = check::log_opening(log).and_then(|opening| {
+        check::log_table(opening, table.len())?;
+        Ok((opening, check::log_contacts(opening, log)?))
+    });
+    match checked {
+        Err(number) => (Read::Refused(number), table.to_vec()),
+        Ok((opening, contacts)) => {
+            let different: Contacts = contacts.into_iter().collect();
+            let answer = Read::Contacts(different.len() as u32);
+            (answer, model::fresh_table(opening, &different))
         }
     }
 }

@@ -1,4 +1,4 @@
-//! Random openings, contacts, questions and well-formed cells.
+//! Random openings, contacts, questions, logs and well-formed cells.
 
 use crate::random::Random;
 use crate::words::{Cells, Contact, Interval, Opening};
@@ -115,4 +115,50 @@ fn rising(random: &mut Random, opening: Opening, departures: &[u32], slack: u32)
     }
     rows.reverse();
     rows
+}
+
+/// The contacts of a log, at most so many, in any order and with repeats; none where there is one animal.
+pub fn log_contacts(random: &mut Random, opening: Opening, most: usize) -> Vec<Contact> {
+    let mut contacts = Vec::new();
+    if opening.animals == 1 {
+        return contacts;
+    }
+    for _ in 0..random.below(most + 1) {
+        let fresh = contacts.is_empty() || !random.once_in(4);
+        contacts.push(if fresh {
+            contact(random, opening)
+        } else {
+            random.one_of(&contacts)
+        });
+    }
+    contacts
+}
+
+/// The log with one to three of its words changed, moved, left out or put in.
+pub fn damaged_log(random: &mut Random, log: &[u32]) -> Vec<u32> {
+    let mut words = log.to_vec();
+    for _ in 0..random.between(1, 3) {
+        damage(random, &mut words);
+    }
+    words
+}
+
+/// Changes, moves, leaves out or puts in one word.
+fn damage(random: &mut Random, words: &mut Vec<u32>) {
+    if words.is_empty() {
+        return words.push(random.word());
+    }
+    let (place, other) = (random.below(words.len()), random.below(words.len()));
+    let last = words.len() - 1;
+    let step = random.one_of(&[1, 1 << 10, 1 << 18, u32::MAX]);
+    let any_contact = 0x4000_0000 | random.word() & 0x03FF_FFFF;
+    match random.below(7) {
+        0 => words[place] ^= 1 << random.between(0, 31),
+        1 => words.swap(place, other),
+        2 => drop(words.remove(place)),
+        3 => words.insert(place, words[other]),
+        4 => words[place] = words[place].wrapping_add(step),
+        5 => words[place] = random.one_of(&[0, 0x8000_0000, 0xC000_0000, any_contact]),
+        _ => words[last] = words[last].wrapping_add(random.one_of(&[1, u32::MAX])),
+    }
 }

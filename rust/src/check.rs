@@ -1,4 +1,4 @@
-//! Document 01's checks of an open table and of a call's numbers, each with its refusal.
+//! Document 01's checks of an open table, of a log and of a call's numbers, each with its refusal.
 
 use crate::words::{self, Cells, Contact, Interval, Opening};
 
@@ -22,6 +22,48 @@ pub fn open_table(table: &[u32]) -> Result<(Opening, Cells), u32> {
         }
     }
     Ok((opening, cells))
+}
+
+/// The opening of a log, or refusal 11.
+pub fn log_opening(log: &[u32]) -> Result<Opening, u32> {
+    match log {
+        [first, _, ..] => words::read_opening(*first).ok_or(11),
+        _ => Err(11),
+    }
+}
+
+/// A table of so many words for a log with this opening, or refusal 4.
+pub fn log_table(opening: Opening, table_words: usize) -> Result<(), u32> {
+    if table_words == opening.table_words() {
+        Ok(())
+    } else {
+        Err(4)
+    }
+}
+
+/// The contacts of a log with this opening, repeats included, or refusal 12, 13 or 14.
+pub fn log_contacts(opening: Opening, log: &[u32]) -> Result<Vec<Contact>, u32> {
+    let mut contacts = Vec::new();
+    for &word in &log[1..log.len() - 1] {
+        contacts.push(log_contact(opening, word)?);
+    }
+    let counted = words::read_end(log[log.len() - 1]).ok_or(14u32)?;
+    if counted as usize == contacts.len() {
+        Ok(contacts)
+    } else {
+        Err(14)
+    }
+}
+
+/// The contact of a word between a log's first and last, or refusal 12 or 13.
+fn log_contact(opening: Opening, word: u32) -> Result<Contact, u32> {
+    let read = words::read_contact(word).ok_or(12u32)?;
+    let inside = read.from < opening.animals && read.to < opening.animals;
+    if inside && read.from != read.to && read.tick <= opening.ticks {
+        Ok(read)
+    } else {
+        Err(13)
+    }
 }
 
 /// The contact (u, v, t) on a table with this opening, or refusal 7, 8 or 9.

@@ -1,7 +1,8 @@
 //! Safe calls of the proved contact tracing engine, and what its comparison tests need.
 //!
 //! `ffi` calls the engine. `model` says by a plain search over contacts what a table must hold;
-//! `rule`, `check` and `calls` say it from the text of document 01, for tables that no adds built.
+//! `rule`, `check` and `calls` say it from the text of document 01, for tables that no adds built;
+//! `sheet` says what the printing program writes.
 
 pub mod calls;
 pub mod cases;
@@ -12,4 +13,5 @@ pub mod guard;
 pub mod model;
 pub mod random;
 pub mod rule;
+pub mod sheet;
 pub mod words;

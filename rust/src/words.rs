@@ -154,6 +154,18 @@ pub fn read_interval(word: u32) -> Option<Interval> {
     (kind(word) == INTERVAL && bits(word, 29, 22) == 0).then_some(interval)
 }
 
+/// The contact of a contact word, legal or not.
+pub fn read_contact(word: u32) -> Option<Contact> {
+    let (from, to) = (bits(word, 25, 18), bits(word, 17, 10));
+    let contact = Contact::new(from, to, bits(word, 9, 0) + 1);
+    (kind(word) == CONTACT && bits(word, 29, 26) == 0).then_some(contact)
+}
+
+/// The contacts that an end word counts.
+pub fn read_end(word: u32) -> Option<u32> {
+    (kind(word) == END && bits(word, 29, 26) == 0).then_some(bits(word, 25, 0))
+}
+
 /// The rows of a count word.
 pub fn read_count(word: u32) -> Option<u32> {
     (kind(word) == COUNT && bits(word, 29, 11) == 0).then_some(bits(word, 10, 0))
@@ -170,7 +182,7 @@ pub fn table(opening: Opening, cells: &Cells) -> Vec<u32> {
     words
 }
 
-/// The words of the log of these contacts, which come in log order.
+/// The words of the log of these contacts, in the order in which they come.
 pub fn log(opening: Opening, contacts: impl IntoIterator<Item = Contact>) -> Vec<u32> {
     let mut words = vec![opening_word(opening)];
     words.extend(contacts.into_iter().map(contact_word));

@@ -1,6 +1,7 @@
-//! Tables that touch memory which cannot be read or written.
+//! Tables and logs that touch memory which cannot be read or written.
 
 use herd::compare::same_words;
+use herd::ffi::log::{read_log, Read};
 use herd::ffi::{self, Added, Opened};
 use herd::guard::{Guarded, PLACES};
 use herd::random::Random;
@@ -15,6 +16,21 @@ fn add_at_guards(words: &[u32], (u, v, t): (u32, u32, u32)) -> Added {
         let case = (place, words.len(), u, v, t);
         assert_eq!(ffi::add(&mut table, u, v, t), expected, "{case:?}");
         same_words(&table, &after, case);
+    }
+    expected
+}
+
+/// Reads a log at each guard, which cannot be written, into a table at each guard, and compares it with document 01.
+fn read_at_guards(log: &[u32], before: &[u32]) -> Read {
+    let (expected, after) = calls::read_log(log, before);
+    for log_place in PLACES {
+        let lent = Guarded::new(log_place, log).freeze();
+        for table_place in PLACES {
+            let mut table = Guarded::new(table_place, before);
+            let case = (log_place, table_place, log, before.len());
+            assert_eq!(read_log(&lent, &mut table), expected, "{case:?}");
+            same_words(&table, &after, case);
+        }
     }
     expected
 }
@@ -116,4 +132,89 @@ fn wrong_words_stay_inside() {
 fn empty_slices_at_guards() {
     assert_eq!(add_at_guards(&[], (0, 1, 1)), Added::Refused(5));
     assert_eq!(add_at_guards(&[0x83FF_FFFF], (0, 1, 1)), Added::Refused(5));
+}
+
+#[test]
+fn reading_stays_inside() {
+    let mut random = Random::new(605);
+    let mut read = 0;
+    for _ in 0..1_500 {
+        let opening = cases::opening(&mut random);
+        let contacts = cases::log_contacts(&mut random, opening, 30);
+        let log = words::log(opening, contacts);
+        let right = opening.table_words();
+        for length in [right, right - 1, right + 1, 0] {
+            let answer = read_at_guards(&log, &random.words(length));
+            assert_eq!(answer == Read::Refused(4), length != right, "{opening:?}");
+            read += u32::from(answer != Read::Refused(4));
+        }
+    }
+    assert_eq!(read, 1_500);
+}
+
+#[test]
+fn reading_full_cells_stays_inside() {
+    let mut random = Random::new(606);
+    for ticks in [1, 2, 5, 8, 31] {
+        for carry in [1, 3, 40] {
+            let opening = Opening::new(3, ticks, carry);
+            let mut contacts = cases::legal_contacts(opening);
+            let number = Read::Contacts(contacts.len() as u32);
+            for _ in 0..20 {
+                random.shuffle(&mut contacts);
+                let before = random.words(opening.table_words());
+                let log = words::log(opening, contacts.clone());
+                assert_eq!(read_at_guards(&log, &before), number, "{opening:?}");
+                contacts.push(random.one_of(&contacts));
+            }
+        }
+    }
+}
+
+#[test]
+fn reading_wrong_logs_stays_inside() {
+    let mut random = Random::new(607);
+    let mut seen = [0; 15];
+    let mut read = 0;
+    for _ in 0..8_000 {
+        let opening = cases::opening(&mut random);
+        let contacts = cases::log_contacts(&mut random, opening, 12);
+        let log = cases::damaged_log(&mut random, &words::log(opening, contacts));
+        let right = opening.table_words();
+        let length = random.one_of(&[right, right, right, right - 1, right + 1]);
+        match read_at_guards(&log, &random.words(length)) {
+            Read::Refused(number) => seen[number as usize] += 1,
+            Read::Contacts(_) => read += 1,
+        }
+    }
+    let enough = [4, 11, 12, 13, 14].iter().all(|&number| seen[number] > 200);
+    assert!(enough && read > 200, "{seen:?} {read}");
+}
+
+#[test]
+fn reading_no_word_one_or_two_stays_inside() {
+    let opening = Opening::new(256, 1024, 256);
+    let first = words::opening_word(opening);
+    let end = words::end_word(0);
+    for (log, number) in [
+        (&[][..], 11),
+        (&[first], 11),
+        (&[end], 11),
+        (&[end, end], 11),
+        (&[first, end], 4),
+        (&[first, u32::MAX], 4),
+    ] {
+        for table in [&[][..], &[7], &[first, end]] {
+            assert_eq!(read_at_guards(log, table), Read::Refused(number));
+        }
+    }
+    let first = words::opening_word(Opening::new(1, 1, 1));
+    for (last, answer) in [
+        (end, Read::Contacts(0)),
+        (words::end_word(1), Read::Refused(14)),
+        (first, Read::Refused(14)),
+        (0, Read::Refused(14)),
+    ] {
+        assert_eq!(read_at_guards(&[first, last], &[1, 2, 3]), answer);
+    }
 }

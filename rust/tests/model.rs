@@ -1,9 +1,10 @@
 //! The plain search and the naive rule themselves, on document 01's cases and against each other.
 
+use herd::ffi::log::Read;
 use herd::model::{self, Contacts};
 use herd::random::Random;
 use herd::words::{self, Contact, Interval, Opening};
-use herd::{cases, ffi::Added, rule};
+use herd::{calls, cases, ffi::Added, rule};
 
 /// The contacts of document 01's session.
 fn session() -> Contacts {
@@ -168,5 +169,38 @@ fn every_legal_contact_makes_full_cells() {
         let contacts = cases::legal_contacts(opening).into_iter().collect();
         let found = model::minimal_intervals(opening, &contacts);
         assert_eq!(found, cases::full_cells(opening), "{opening:?}");
+    }
+}
+
+#[test]
+fn reading_is_opening_and_adding_all() {
+    let mut random = Random::new(204);
+    for _ in 0..1_000 {
+        let opening = cases::opening(&mut random);
+        let (n, ticks, carry) = (opening.animals, opening.ticks, opening.carry);
+        let contacts = cases::log_contacts(&mut random, opening, 20);
+        let before = random.words(opening.table_words());
+        let (_, mut table) = calls::open(&before, n, ticks, carry);
+        let mut new = 0;
+        for contact in &contacts {
+            let (added, after) = calls::add(&table, contact.from, contact.to, contact.tick);
+            new += u32::from(matches!(added, Added::New(_)));
+            table = after;
+        }
+        let (answer, read) = calls::read_log(&words::log(opening, contacts), &before);
+        assert_eq!(answer, Read::Contacts(new), "{opening:?}");
+        assert_eq!(read, table, "{opening:?}");
+    }
+}
+
+#[test]
+fn log_words_are_told_apart() {
+    let contact = Contact::new(255, 0, 1024);
+    let word = words::contact_word(contact);
+    assert_eq!(words::read_contact(word), Some(contact));
+    assert_eq!(words::read_end(0xC3FF_FFFF), Some(67_108_863));
+    for bit in 26..32 {
+        assert_eq!(words::read_contact(word ^ 1 << bit), None, "{bit}");
+        assert_eq!(words::read_end(0xC000_0000 ^ 1 << bit), None, "{bit}");
     }
 }

@@ -16,12 +16,15 @@ use Rattle.rules.specs.declared.OpenAnswer.the-variants.{Opened, Refused as Ope
 use Rattle.rules.specs.declared.AddAnswer.{AddAnswer}
 use Rattle.rules.specs.declared.AddAnswer.the-variants.{New, Known, Refused as AddRefused}
 use Rattle.rules.specs.declared.WriteAnswer.the-variants.{Written, Refused as WriteRefused}
+use Rattle.rules.specs.declared.ReadAnswer.the-variants.{Read, Refused as ReadRefused}
 use Rattle.rules.specs.Answers.{ensure, openAnswerOf, unless}
-use Rattle.rules.specs.Layout.{tableLength, tableWords, animals, cellsOf}
+use Rattle.rules.specs.Layout.{tableLength, tableWords, animals, ticks, carry, cellsOf}
 use Rattle.rules.specs.Checks.{isOpen, wellFormed, ensureTable, Passes}
 use Rattle.rules.specs.Logs.{heldContacts, logWords, writeRefusal, writeAnswer, writeLeaves}
 use Rattle.rules.specs.Opening.{Sizes, ensureSizes, openRefusal, noIntervals, openAnswer, openLeaves}
 use Rattle.rules.specs.Adding.{ensurePair, ensureTick, addRefusal, holds, cellsChanged, addedCells, addAnswer, addLeaves}
+use Rattle.rules.specs.Demand3.{engine, tableAfter}
+use Rattle.rules.specs.Reading.{loggedContacts, different, readRefusal, readAnswer, readLeaves}
 use Rattle.rules.proofs.Judged.{ensure-iff, sizes-iff}
 use Rattle.rules.proofs.Sound.{opens-length}
 use Rattle.tables.specs.declared.Opening.{Opening}
@@ -171,3 +174,19 @@ module _ (T B : List ℕ) (v : Verdict) (p : v ≡ verdictOf (ensureTable T none
     pub write-short : b ≡ false → (WriteRefused LogBufferTooShort ≡ writeAnswer T B) × (U ≡ writeLeaves T B)
     unfolding writeAnswer writeLeaves
     write-short k = let w : fits ≡ false = sym e ∙ k in (rw (refusal-buffer, w) refl, rw (refusal-buffer, w) (rw w at h))
+
+-- ---- reading a log
+
+-- What the verdict of all checks says of the reply, and of the words left.
+module _ (L T : List ℕ) (v : Verdict) (p : v ≡ verdictOf (readRefusal L T)) where
+  pub read-refused : (r : Refusal) → v ≡ Refused r → (ReadRefused r ≡ readAnswer L T) × (T ≡ readLeaves L T)
+  unfolding readAnswer readLeaves
+  read-refused r q = let e = verdict-refused (readRefusal L T) r (sym p ∙ q) in (rw e refl, rw e refl)
+
+  pub read-passed : v ≡ Passed → readRefusal L T ≡ none
+  read-passed q = verdict-passed (readRefusal L T) (sym p ∙ q)
+
+  pub read-done : v ≡ Passed → (m : ℕ) (U : List ℕ) → m ≡ different (loggedContacts L) → U ≡ tableAfter engine (animals L) (ticks L) (carry L) T (loggedContacts L)
+      → (Read m ≡ readAnswer L T) × (U ≡ readLeaves L T)
+  unfolding readAnswer readLeaves
+  read-done q m U e f = (rw (read-passed q, e) refl, rw (read-passed q) f)

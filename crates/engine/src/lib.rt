@@ -3,17 +3,43 @@
 ghost use mathlib.Core.Path.{_≡_};
 ghost use mathlib.Core.Option.{none};
 ghost use Rattle.journeys.specs.Journey.{contact};
+ghost use Rattle.rules.specs.Answers.{numberOf};
 ghost use Rattle.rules.specs.Opening.{openAnswer, openLeaves};
 ghost use Rattle.rules.specs.Adding.{addRefusal, addAnswer, addLeaves};
 ghost use Rattle.rules.specs.Logs.{writeAnswer, writeLeaves};
+ghost use Rattle.rules.specs.Reading.{readAnswer, readLeaves};
 ghost use Rattle.verdicts.specs.Verdicts.{verdictOf};
 use rules::AddAnswer;
 use rules::OpenAnswer;
+use rules::ReadAnswer;
 use rules::Refusal;
 use rules::WriteAnswer;
 use tables::Made;
 use tables::Opening;
 use verdicts::Verdict;
+
+// Document 01's number of a refusal.
+pub fn number_of(refusal: Refusal) -> u32
+    ensures { λ r. ⌜ r ≡ numberOf refusal ⌝ }
+{
+    match refusal {
+        Refusal::AnimalsBeyondLimit => 1,
+        Refusal::TicksBeyondLimit => 2,
+        Refusal::CarryBeyondLimit => 3,
+        Refusal::WrongLength => 4,
+        Refusal::NotOpen => 5,
+        Refusal::NotWellFormed => 6,
+        Refusal::NoSuchAnimal => 7,
+        Refusal::SameAnimal => 8,
+        Refusal::TickOutOfRange => 9,
+        Refusal::ChainBufferTooShort => 10,
+        Refusal::NotALog => 11,
+        Refusal::NotAContact => 12,
+        Refusal::IllegalContact => 13,
+        Refusal::WrongEnd => 14,
+        Refusal::LogBufferTooShort => 15,
+    }
+}
 
 // Opens a table for n animals, τ ticks and carry time δ: every cell empty. Refuses with 1, 2, 3, 4.
 pub fn open_table(table: &mut [u32], animals: u32, ticks: u32, carry: u32) -> OpenAnswer
@@ -82,6 +108,22 @@ pub fn write_log(table: &[u32], buffer: &mut [u32]) -> WriteAnswer
                 return WriteAnswer::Written(wrote.words);
             }
             WriteAnswer::Refused(Refusal::LogBufferTooShort)
+        }
+    }
+}
+
+// Reads the log into the table, whatever that held: opens it and adds all contacts, and answers how many different ones they
+// are. The whole log is checked before a word is written. Refuses with 11, 4, 12, 13, 14.
+pub fn read_log(log: &[u32], table: &mut [u32]) -> ReadAnswer
+    ensures { λ r. ⌜ r ≡ readAnswer (now (log .entry)) (now (table .entry)) ⌝ }
+    ensures { λ _. ⌜ now (table .exit) ≡ readLeaves (now (log .entry)) (now (table .entry)) ⌝ }
+{
+    let verdict = reading::judged::judge_log(log, table);
+    match verdict {
+        Verdict::Refused(r) => ReadAnswer::Refused(r),
+        Verdict::Passed => {
+            let different = reading::loading::load(log, table);
+            ReadAnswer::Read(different)
         }
     }
 }

@@ -3,37 +3,19 @@
 ghost use mathlib.Core.Path.{_≡_};
 ghost use Prim.Native.Nat.{_<_};
 ghost use Rattle.journeys.specs.Journey.{contact};
-ghost use Rattle.rules.specs.Answers.{numberOf, reply, openReply, addReply, writeReply, askReply, chainReply};
+ghost use Rattle.rules.specs.Answers.{reply, openReply, addReply, writeReply, readReply, askReply, chainReply};
 ghost use Rattle.rules.specs.Opening.{openAnswer, openLeaves};
 ghost use Rattle.rules.specs.Adding.{addAnswer, addLeaves};
 ghost use Rattle.rules.specs.Logs.{writeAnswer, writeLeaves};
+ghost use Rattle.rules.specs.Reading.{readAnswer, readLeaves};
 ghost use Rattle.rules.specs.Questions.{reachAnswer};
 ghost use Rattle.rules.specs.Chains.{chainAnswer, chainLeaves};
 use rules::AddAnswer;
 use rules::AskAnswer;
 use rules::ChainAnswer;
 use rules::OpenAnswer;
-use rules::Refusal;
+use rules::ReadAnswer;
 use rules::WriteAnswer;
-
-// Document 01's number of a refusal.
-fn number_of(refusal: Refusal) -> u32
-    ensures { λ r. ⌜ r ≡ numberOf refusal ⌝ }
-{
-    match refusal {
-        Refusal::AnimalsBeyondLimit => 1,
-        Refusal::TicksBeyondLimit => 2,
-        Refusal::CarryBeyondLimit => 3,
-        Refusal::WrongLength => 4,
-        Refusal::NotOpen => 5,
-        Refusal::NotWellFormed => 6,
-        Refusal::NoSuchAnimal => 7,
-        Refusal::SameAnimal => 8,
-        Refusal::TickOutOfRange => 9,
-        Refusal::ChainBufferTooShort => 10,
-        Refusal::LogBufferTooShort => 15,
-    }
-}
 
 // A reply: which answer, and its number.
 fn reply_of(which: u32, number: u32) -> u64
@@ -51,7 +33,7 @@ pub extern "C" fn herd_open(table: &mut [u32], animals: u32, ticks: u32, carry: 
     let answer = engine::open_table(table, animals, ticks, carry);
     match answer {
         OpenAnswer::Opened => reply_of(1, 0),
-        OpenAnswer::Refused(r) => reply_of(0, number_of(r)),
+        OpenAnswer::Refused(r) => reply_of(0, engine::number_of(r)),
     }
 }
 
@@ -65,7 +47,20 @@ pub extern "C" fn herd_add(table: &mut [u32], u: u32, v: u32, t: u32) -> u64
     match answer {
         AddAnswer::New(k) => reply_of(1, k),
         AddAnswer::Known(k) => reply_of(2, k),
-        AddAnswer::Refused(r) => reply_of(0, number_of(r)),
+        AddAnswer::Refused(r) => reply_of(0, engine::number_of(r)),
+    }
+}
+
+// Reads a log into a table: 1 read, with the number of different contacts, 0 refused.
+#[no_mangle]
+pub extern "C" fn herd_read_log(log: &[u32], table: &mut [u32]) -> u64
+    ensures { λ r. ⌜ r ≡ readReply (readAnswer (now (log .entry)) (now (table .entry))) ⌝ }
+    ensures { λ _. ⌜ now (table .exit) ≡ readLeaves (now (log .entry)) (now (table .entry)) ⌝ }
+{
+    let answer = engine::read_log(log, table);
+    match answer {
+        ReadAnswer::Read(k) => reply_of(1, k),
+        ReadAnswer::Refused(r) => reply_of(0, engine::number_of(r)),
     }
 }
 
@@ -78,7 +73,7 @@ pub extern "C" fn herd_write_log(table: &[u32], buffer: &mut [u32]) -> u64
     let answer = engine::write_log(table, buffer);
     match answer {
         WriteAnswer::Written(k) => reply_of(1, k),
-        WriteAnswer::Refused(r) => reply_of(0, number_of(r)),
+        WriteAnswer::Refused(r) => reply_of(0, engine::number_of(r)),
     }
 }
 
@@ -91,7 +86,7 @@ pub extern "C" fn herd_reach(table: &[u32], u: u32, v: u32, first: u32, last: u3
     match answer {
         AskAnswer::Yes => reply_of(1, 0),
         AskAnswer::No => reply_of(2, 0),
-        AskAnswer::Refused(r) => reply_of(0, number_of(r)),
+        AskAnswer::Refused(r) => reply_of(0, engine::number_of(r)),
     }
 }
 
@@ -112,6 +107,6 @@ pub extern "C" fn herd_chain(
     match answer {
         ChainAnswer::Chain(k) => reply_of(1, k),
         ChainAnswer::NoJourney => reply_of(2, 0),
-        ChainAnswer::Refused(r) => reply_of(0, number_of(r)),
+        ChainAnswer::Refused(r) => reply_of(0, engine::number_of(r)),
     }
 }

@@ -2,16 +2,17 @@
 use mathlib.Core.Path.{_≡_, refl, sym, ap, ap₂, _∙_, subst}
 use mathlib.Core.Logic.{_⊎_, inl, inr, ⊎-elim, _≢_}
 use mathlib.Core.Bool.{Bool, true, false, cond, not, _&&_, _||_}
-use mathlib.Core.List.{List, [], _∷_, List·Memᴰ, List·Memᴰ·head, List·Memᴰ·tail, List·Memᴰ·cases-cons, List·Memᴰ·not-nil, cons-eq-cons, cons≢nil}
+use mathlib.Core.List.{List, [], _∷_, List·Memᴰ, List·Memᴰ·not-nil, cons-eq-cons, cons≢nil}
 use Prim.Native.Nat.{ℕ, _≤_, _<_}
 use native.Mathlib.Nat.{le-refl}
 use native.Mathlib.Omega.{arith}
 use Rattle.journeys.specs.Journey.{Interval, interval}
 use Rattle.journeys.specs.Cell.{Cell, hasInside, enter, putInOrder, withoutContaining}
-use Rattle.journeys.proofs.Tests.{Outcome, holds, fails, eq-outcome, and-outcome, or-outcome}
+use Rattle.journeys.proofs.Tests.{Outcome, holds, fails, eq-outcome, and-outcome}
 use Rattle.journeys.proofs.Cover.{Covers, interval-path, departure-path, arrival-path, hasInside-outcome}
 use Rattle.journeys.proofs.Enter.{enter-iff}
 use Rattle.rules.specs.Adding.{sameInterval, stands, sameCell}
+use Rattle.rules.proofs.Folds.{member-outcome}
 
 pub sameInterval-outcome : (i j : Interval) → Outcome (i ≡ j) (i ≢ j) (sameInterval i j)
 sameInterval-outcome i j = go (and-outcome (eq-outcome (i .departure) (j .departure)) (eq-outcome (i .arrival) (j .arrival)))
@@ -24,11 +25,7 @@ sameInterval-outcome i j = go (and-outcome (eq-outcome (i .departure) (j .depart
 pub stands-outcome : (i : Interval) (c : Cell) → Outcome (List·Memᴰ i c) (¬ List·Memᴰ i c) (stands i c)
 unfolding stands
 stands-outcome i [] = fails List·Memᴰ·not-nil
-stands-outcome i (j ∷ c) = go (or-outcome (sameInterval-outcome i j) (stands-outcome i c))
-  where
-    go : {b : Bool} → Outcome ((i ≡ j) ⊎ List·Memᴰ i c) ((i ≢ j) × (¬ List·Memᴰ i c)) b → Outcome (List·Memᴰ i (j ∷ c)) (¬ List·Memᴰ i (j ∷ c)) b
-    go (holds o) = holds (⊎-elim List·Memᴰ·head List·Memᴰ·tail o)
-    go (fails n) = fails (λ m. ⊎-elim (n .0) (n .1) (List·Memᴰ·cases-cons m))
+stands-outcome i (j ∷ c) = member-outcome (sameInterval-outcome i j) (stands-outcome i c)
 
 -- The test `sameCell` is equality.
 pub sameCell-outcome : (c d : Cell) → Outcome (c ≡ d) (c ≢ d) (sameCell c d)

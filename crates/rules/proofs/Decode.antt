@@ -21,7 +21,7 @@ use Rattle.rules.specs.Folds.{flat, allBelow}
 use Rattle.rules.specs.Layout.{tableLength, cellWords, tableWords, animals, ticks, carry, cellAt, cellOf, cellsOf}
 use Rattle.rules.specs.Opening.{Sizes}
 use Rattle.rules.specs.Checks.{isOpen, fineRow, fineRows, allUnused, fineCell, wellFormed, Passes}
-use Rattle.rules.proofs.Folds.{and-intro, all-below, body-length, body-part, flat-same}
+use Rattle.rules.proofs.Folds.{and-intro, all-below, body-length, body-part, flat-same, map-back}
 
 -- The cells of animals below n are well formed, and each (x, x) is empty.
 pub record Good (n τ δ : ℕ) (T : Cells) : Type 0 where
@@ -41,10 +41,6 @@ module _ (τ δ : ℕ) (hτ : τ ≤ 1024) (hδ : δ ≤ 256) where
 
   row-again : (i : Interval) → Limits τ δ i → intervalOf (intervalWord i) ≡ i
   row-again i l = let h = ends-fit i l in intervalOf-word i (h .0) (h .1)
-
-  rows-again : (c : Cell) → ((i : Interval) → List·Memᴰ i c → Limits τ δ i) → map intervalOf (map intervalWord c) ≡ c
-  rows-again [] f = refl
-  rows-again (i ∷ c) f = ap₂ _∷_ (row-again i (f i (List·Memᴰ·head refl))) (rows-again c (λ j m. f j (List·Memᴰ·tail m)))
 
   module _ (i : Interval) (l : Limits τ δ i) where
     departure-again : get departureField (intervalWord i) ≡ i .departure
@@ -99,7 +95,7 @@ module _ (τ δ : ℕ) (hτ : τ ≤ 1024) (hδ : δ ≤ 256) where
     -- A cell is read as it was packed.
     pub cell-again : cellOf (cellWords τ c) ≡ c
     unfolding cellOf cellWords
-    cell-again = ap (map intervalOf) take-rows ∙ rows-again c (w .limits)
+    cell-again = ap (map intervalOf) take-rows ∙ map-back intervalWord intervalOf c (λ i m. row-again i (w .limits i m))
 
     -- A well-formed cell's words pass the check.
     pub cell-fine : (m : ℕ) → length c ≤ m → fineCell τ δ m (cellWords τ c) ≡ true

@@ -2,7 +2,7 @@
 use mathlib.Core.Path.{_≡_, refl, sym, ap, _∙_, subst}
 use mathlib.Core.Bool.{Bool, true, false, cond, not, _&&_}
 use mathlib.Core.Option.{Option, none, some}
-use mathlib.Core.List.{List, [], _∷_, _++_, map}
+use mathlib.Core.List.{List, [], _++_, map}
 use Prim.Native.Nat.{ℕ, zero, suc, _+_, _-_, _≤_, _<_}
 use native.Mathlib.Omega.{arith}
 use lib.ListN.{length, getD, drop, length-append, length-map, length-drop, replicate}
@@ -18,33 +18,35 @@ use Rattle.rules.specs.declared.AddAnswer.{AddAnswer}
 use Rattle.rules.specs.declared.AddAnswer.the-variants.{New, Known, Refused as AddRefused}
 use Rattle.rules.specs.declared.Refusal.the-variants.{NotOpen, NotWellFormed, NoSuchAnimal, SameAnimal, TickOutOfRange, ChainBufferTooShort, LogBufferTooShort}
 use Rattle.rules.specs.declared.WriteAnswer.the-variants.{Written, Refused as WriteRefused}
+use Rattle.rules.specs.declared.ReadAnswer.the-variants.{Read, Refused as ReadRefused}
 use Rattle.rules.specs.declared.SetAnswer.the-variants.{Refused as SetRefused}
 use Rattle.rules.specs.declared.ChainAnswer.the-variants.{Chain, NoJourney, Refused as ChainRefused}
-use Rattle.words.specs.Words.{contactWord, endWord}
-use Rattle.rules.specs.Answers.{unless, openAnswerOf, addAnswerOf, writeAnswerOf}
+use Rattle.words.specs.Words.{contactWord}
+use Rattle.rules.specs.Answers.{unless, openAnswerOf, addAnswerOf, writeAnswerOf, readAnswerOf}
 use Rattle.rules.specs.Layout.{tableLength, tableWords, animals, ticks, carry, cellsOf}
 use Rattle.rules.specs.Checks.{isOpen, wellFormed, Passes}
 use Rattle.rules.specs.Opening.{openRefusal, openAnswer, openLeaves}
 use Rattle.rules.specs.Adding.{Legal, addRefusal, addedCells, holds, cellsChanged, addAnswer, addLeaves}
 use Rattle.rules.specs.Logs.{heldContacts, logWords, writeRefusal, writeAnswer, writeLeaves}
+use Rattle.rules.specs.Fresh.{Fresh}
+use Rattle.rules.specs.Demand3.{LegalOf}
+use Rattle.rules.specs.Reading.{loggedContacts, readRefusal, different, readAnswer, readLeaves}
 use Rattle.rules.specs.Folds.{countBelow}
 use Rattle.rules.specs.Questions.{windowInRange, inOrder, setAnswerOf, isReached, setWords, reachedRefusal, reachedAnswer, reachedWords, reachedCount}
 use Rattle.rules.specs.Chains.{nowhere, there, onward, leads, Lowest, nobody, animal, lowest, before, follow, chainFrom, fromDeparture, withArrival, chainOf, chainRefusal, chainAnswerOf, chainAnswer, chainWords, chainLeaves}
 use Rattle.rules.specs.Demand1.{Demand1}
 use Rattle.rules.proofs.Decode.{Good, table-length, table-passes}
 use Rattle.rules.proofs.Sound.{table-sizes, passes-good, opens-length}
-use Rattle.rules.proofs.Judged.{ensure-iff, open-iff, add-iff}
-use Rattle.rules.proofs.Fresh.{add-good, empty-good}
+use Rattle.rules.proofs.Judged.{ensure-iff, unless-cases, open-iff, add-iff}
+use Rattle.rules.proofs.Fresh.{add-good, empty-good, fresh-length, fresh-passes}
+use Rattle.rules.proofs.Runs.{run-fresh}
+use Rattle.rules.proofs.Reading.{Readable, read-iff, read-opens, log-length}
 
 -- ---- opening
 
 open-cases : (n τ δ : ℕ) (T : List ℕ) (P : Option Refusal → List ℕ → Type 0) → ((r : Refusal) → P (some r) T) → (openRefusal n τ δ T ≡ none → P none (tableWords n τ δ (λ u v. []))) → P (openRefusal n τ δ T) (openLeaves n τ δ T)
 unfolding openLeaves
-open-cases n τ δ T P a b = go (openRefusal n τ δ T) refl
-  where
-    go : (o : Option Refusal) → openRefusal n τ δ T ≡ o → P o (unless o (tableWords n τ δ (λ u v. [])) T)
-    go none e = b e
-    go (some r) e = a r
+open-cases n τ δ T P a b = unless-cases (openRefusal n τ δ T) P (λ r e. a r) b
 
 open-opened : (o : Option Refusal) → openAnswerOf o ≡ Opened → o ≡ none
 open-opened none e = refl
@@ -71,11 +73,7 @@ open-passes n τ δ T =
 pub add-cases : (T : List ℕ) (k : Contact) (P : Option Refusal → List ℕ → Type 0) → ((r : Refusal) → addRefusal T k ≡ some r → P (some r) T)
     → (addRefusal T k ≡ none → P none (tableWords (animals T) (ticks T) (carry T) (addedCells T k))) → P (addRefusal T k) (addLeaves T k)
 unfolding addLeaves
-add-cases T k P a b = go (addRefusal T k) refl
-  where
-    go : (o : Option Refusal) → addRefusal T k ≡ o → P o (unless o (tableWords (animals T) (ticks T) (carry T) (addedCells T k)) T)
-    go none e = b e
-    go (some r) e = a r e
+add-cases T k P a b = unless-cases (addRefusal T k) P a b
 
 -- The cells that an accepted add leaves are well formed.
 pub added-good : (T : List ℕ) (k : Contact) → addRefusal T k ≡ none → Good (animals T) (ticks T) (carry T) (addedCells T k)
@@ -107,20 +105,11 @@ add-passes T k p =
 write-cases : (T B : List ℕ) (P : Option Refusal → List ℕ → Type 0) → ((r : Refusal) → P (some r) B)
     → (writeRefusal T B ≡ none → P none (logWords (getD T 0 0) (heldContacts T) ++ drop (length (heldContacts T) + 2) B)) → P (writeRefusal T B) (writeLeaves T B)
 unfolding writeLeaves
-write-cases T B P a b = go (writeRefusal T B) refl
-  where
-    go : (o : Option Refusal) → writeRefusal T B ≡ o → P o (unless o (logWords (getD T 0 0) (heldContacts T) ++ drop (length (heldContacts T) + 2) B) B)
-    go none e = b e
-    go (some r) e = a r
+write-cases T B P a b = unless-cases (writeRefusal T B) P (λ r e. a r) b
 
 write-kept : (T B : List ℕ) (r : Refusal) → writeAnswer T B ≡ WriteRefused r → writeLeaves T B ≡ B
 unfolding writeAnswer
 write-kept T B r = write-cases T B (λ o L. writeAnswerOf o (Written (length (heldContacts T) + 2)) ≡ WriteRefused r → L ≡ B) (λ s e. refl) (λ p e. absurd (let z : _≡_ {A = ℕ} 0 1 = cc in omega arith))
-
--- A log of l has two words more than l has contacts.
-pub log-length : (w : ℕ) (l : List Contact) → length (logWords w l) ≡ length l + 2
-unfolding logWords
-log-length w l = let e = length-append (map contactWord l) (endWord (length l) ∷ []) in let m = length-map l contactWord in omega arith
 
 -- A log that is written fits its buffer.
 pub write-fits : (T B : List ℕ) → writeRefusal T B ≡ none → Passes T × (length (heldContacts T) + 2 ≤ length B)
@@ -138,6 +127,31 @@ write-length T B =
     let h = write-fits T B e .1 in
     let l = heldContacts T in
     length-append (logWords (getD T 0 0) l) (drop (length l + 2) B) ∙ omega (arith, log-length (getD T 0 0) l, length-drop (length l + 2) B))
+
+-- ---- reading a log
+
+-- By cases: refused and as it was, or read and fresh over the legal contacts of the log.
+read-cases : (L T : List ℕ) (P : Option Refusal → List ℕ → Type 0) → ((r : Refusal) → P (some r) T)
+    → (Readable L T → (U : List ℕ) → Fresh (animals L) (ticks L) (carry L) (LegalOf (animals L) (ticks L) (loggedContacts L)) U → P none U) → P (readRefusal L T) (readLeaves L T)
+unfolding readLeaves
+read-cases L T P a b =
+    unless-cases (readRefusal L T) P (λ r e. a r)
+    (λ e. let h = read-iff L T .0 e in b h _ (run-fresh (animals L) (ticks L) (carry L) T (loggedContacts L) (read-opens L T h)))
+
+read-kept : (L T : List ℕ) (r : Refusal) → readAnswer L T ≡ ReadRefused r → readLeaves L T ≡ T
+unfolding readAnswer
+read-kept L T r =
+    read-cases L T (λ o U. readAnswerOf o (Read (different (loggedContacts L))) ≡ ReadRefused r → U ≡ T) (λ s e. refl)
+    (λ h U f e. absurd (let z : _≡_ {A = ℕ} 0 1 = cc in omega arith))
+
+read-length : (L T : List ℕ) → length (readLeaves L T) ≡ length T
+read-length L T = read-cases L T (λ o U. length U ≡ length T) (λ r. refl) (λ h U f. fresh-length f ∙ sym (h .fits))
+
+read-passes : (L T : List ℕ) (k : ℕ) → readAnswer L T ≡ Read k → Passes (readLeaves L T)
+unfolding readAnswer
+read-passes L T k =
+    read-cases L T (λ o U. readAnswerOf o (Read (different (loggedContacts L))) ≡ Read k → Passes U)
+    (λ r e. absurd (let z : _≡_ {A = ℕ} 0 1 = cc in omega arith)) (λ h U f e. fresh-passes f)
 
 -- ---- the animals reached
 
@@ -225,13 +239,16 @@ demand1 =
       open-refused = open-kept;
       add-refused = add-kept;
       write-refused = write-kept;
+      read-refused = read-kept;
       reached-refused = reached-empty;
       chain-refused = chain-kept;
       open-length = open-length;
       add-length = add-length;
       write-length = write-length;
+      read-length = read-length;
       chain-length = chain-length;
       open-passes = open-passes;
+      read-passes = read-passes;
       add-passes = add-passes;
       legal-accepted = λ T k p l r e. add-accepted T k r e (add-iff T k .1 (p, l));
     }

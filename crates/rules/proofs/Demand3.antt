@@ -300,6 +300,10 @@ one-list n τ δ words A e =
 pub fresh-shared : {n τ δ : ℕ} {S R : Contacts} {T U : List ℕ} → Fresh n τ δ S T → Fresh n τ δ R U → T ≡ U → (k : Contact) → S k → R k
 fresh-shared f g e k s = fresh-held g k .0 (subst (λ (L : List ℕ). List·Memᴰ k (heldContacts L)) e (fresh-held f k .1 s))
 
+-- Two fresh tables are equal exactly when their sets are.
+pub fresh-equal : {n τ δ : ℕ} {S R : Contacts} {T U : List ℕ} → Fresh n τ δ S T → Fresh n τ δ R U → (T ≡ U) ↔ Same S R
+fresh-equal f g = (λ e k. (fresh-shared f g e k, fresh-shared g f (sym e) k), λ e. fresh-unique (fresh-map f e) g)
+
 pub demand3 : Demand3 engine
 demand3 =
     record {
@@ -309,10 +313,8 @@ demand3 =
   where
     two : (n τ δ : ℕ) (wordsA wordsB : List ℕ) (A B : List Contact) → openRefusal n τ δ wordsA ≡ none → openRefusal n τ δ wordsB ≡ none → TwoLists engine n τ δ wordsA wordsB A B
     two n τ δ wordsA wordsB A B p q =
-        let f = run-fresh n τ δ wordsA A p in
-        let g = run-fresh n τ δ wordsB B q in
         record {
           first = one-list n τ δ wordsA A p;
           second = one-list n τ δ wordsB B q;
-          equal = (λ e k. (fresh-shared f g e k, fresh-shared g f (sym e) k), λ e. fresh-unique (fresh-map f e) g);
+          equal = fresh-equal (run-fresh n τ δ wordsA A p) (run-fresh n τ δ wordsB B q);
         }

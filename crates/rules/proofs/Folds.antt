@@ -1,15 +1,15 @@
 -- Laws of lists, tests and sums over the numbers below n.
 use mathlib.Core.Path.{_≡_, refl, sym, ap, ap₂, _∙_, subst}
-use mathlib.Core.Logic.{_⊎_, inl, inr}
-use mathlib.Core.Bool.{Bool, true, false, cond, _&&_, and-eq-true-iff}
-use mathlib.Core.List.{List, [], _∷_, _++_, List·Memᴰ, List·Memᴰ·not-nil, Memᴰ·append-left, Memᴰ·append-right, List·Memᴰ·append-cases}
+use mathlib.Core.Logic.{_↔_, _⊎_, inl, inr, ⊎-elim, _≢_}
+use mathlib.Core.Bool.{Bool, true, false, cond, _&&_, _||_, and-eq-true-iff, false≢true}
+use mathlib.Core.List.{List, [], _∷_, _++_, map, List·Memᴰ, List·Memᴰ·head, List·Memᴰ·tail, List·Memᴰ·not-nil, List·Memᴰ·cases-cons, Memᴰ·append-left, Memᴰ·append-right, List·Memᴰ·append-cases}
 use Prim.Native.Nat.{ℕ, zero, suc, _+_, _-_, _*_, _≤_, _<_}
 use native.Mathlib.Nat.{mul-le-mul-right, suc-mul, zero-mul, mul-assoc, add-mul, le-of-eq}
 use native.Mathlib.Omega.{arith}
 use lib.ListN.{length, take, drop, length-append, length-drop, take-append-drop}
 use lib.Seq.{take-all, take-append-le, drop-append-le, drop-at, drop-drop, take-add}
 use lib.Dec.{ltb}
-use Rattle.journeys.proofs.Tests.{Outcome, holds, fails, lt-outcome}
+use Rattle.journeys.proofs.Tests.{Outcome, holds, fails, lt-outcome, or-outcome}
 use Rattle.rules.specs.Folds.{flat, allBelow, sumBelow, countBelow}
 
 -- ---- tests
@@ -22,6 +22,11 @@ and-right a b e = and-eq-true-iff a b .0 e .1
 
 pub and-intro : (a b : Bool) → a ≡ true → b ≡ true → (a && b) ≡ true
 and-intro a b p q = and-eq-true-iff a b .1 (p, q)
+
+-- A test that means P passes exactly when P holds.
+pub passes-iff : {P : Type 0} {b : Bool} → Outcome P (¬ P) b → (b ≡ true) ↔ P
+passes-iff (holds p) = (λ e. p, λ q. refl)
+passes-iff (fails n) = (λ e. absurd (false≢true e), λ p. absurd (n p))
 
 -- What holds below n and at n holds below n + 1.
 last-or-below : (P : ℕ → Type 0) (n k : ℕ) → k < suc n → (k < n → P k) → P n → P k
@@ -52,6 +57,29 @@ unfolding flat
 flat-length f s zero e = sym (zero-mul s)
 flat-length f s (suc n) e =
     length-append (flat f n) (f n) ∙ ap₂ _+_ (flat-length f s n (λ k h. e k (omega arith))) (e n (omega arith)) ∙ sym (suc-mul n s)
+
+-- At most s for each number.
+pub flat-few : {A : Type 0} (f : ℕ → List A) (s n : ℕ) → ((k : ℕ) → k < n → length (f k) ≤ s) → length (flat f n) ≤ n * s
+unfolding flat
+flat-few f s zero e = omega (arith, zero-mul s)
+flat-few f s (suc n) e =
+    let a = flat-few f s n (λ k h. e k (omega arith)) in
+    let b = e n (omega arith) in
+    omega (arith, length-append (flat f n) (f n), suc-mul n s)
+
+-- At most one for each number, and none for u.
+pub flat-skip : {A : Type 0} (f : ℕ → List A) (u n : ℕ) → u < n → ((k : ℕ) → length (f k) ≤ 1) → length (f u) ≡ 0 → length (flat f n) + 1 ≤ n
+unfolding flat
+flat-skip f u zero h e z = absurd (omega arith)
+flat-skip f u (suc n) h e z = go (lt-outcome u n) (λ o. flat-skip f u n o e z)
+  where
+    go : {b : Bool} → Outcome (u < n) (n ≤ u) b → (u < n → length (flat f n) + 1 ≤ n) → length (flat f n ++ f n) + 1 ≤ suc n
+    go (holds o) r = let a = r o in omega (arith, length-append (flat f n) (f n), e n)
+    go (fails o) r =
+        let q : u ≡ n = omega arith in
+        let a = flat-few f 1 n (λ k l. e k) in
+        let b = ap (λ (i : ℕ). length (f i)) q in
+        omega (arith, length-append (flat f n) (f n))
 
 -- The k-th part of a list made part by part.
 pub flat-part : {A : Type 0} (f : ℕ → List A) (s n : ℕ) → ((k : ℕ) → k < n → length (f k) ≡ s) → (k : ℕ) → k < n → take s (drop (k * s) (flat f n)) ≡ f k
@@ -126,6 +154,20 @@ body-parts {A} s n l e =
         part y k = ap (take s) (drop-drop (y * s) (x * (n * s)) l) ∙ ap (λ (i : ℕ). take s (drop i l)) (place-of x y n s)
 
 -- ---- members
+
+-- Mapping there and back leaves a list as it was.
+pub map-back : {A B : Type 0} (f : A → B) (g : B → A) (l : List A) → ((a : A) → List·Memᴰ a l → g (f a) ≡ a) → map g (map f l) ≡ l
+map-back f g [] e = refl
+map-back f g (a ∷ l) e = ap₂ _∷_ (e a (List·Memᴰ·head refl)) (map-back f g l (λ b m. e b (List·Memᴰ·tail m)))
+
+-- The test for the first element or the test for the rest is the test for membership.
+pub member-outcome : {A : Type 0} {a b : A} {l : List A} {s t : Bool} → Outcome (a ≡ b) (a ≢ b) s → Outcome (List·Memᴰ a l) (¬ List·Memᴰ a l) t
+    → Outcome (List·Memᴰ a (b ∷ l)) (¬ List·Memᴰ a (b ∷ l)) (s || t)
+member-outcome {A} {a} {b} {l} p q = go (or-outcome p q)
+  where
+    go : {t : Bool} → Outcome ((a ≡ b) ⊎ List·Memᴰ a l) ((a ≢ b) × (¬ List·Memᴰ a l)) t → Outcome (List·Memᴰ a (b ∷ l)) (¬ List·Memᴰ a (b ∷ l)) t
+    go (holds o) = holds (⊎-elim List·Memᴰ·head List·Memᴰ·tail o)
+    go (fails n) = fails (λ m. ⊎-elim (n .0) (n .1) (List·Memᴰ·cases-cons m))
 
 pub flat-member : {A : Type 0} {a : A} (f : ℕ → List A) (n k : ℕ) → k < n → List·Memᴰ a (f k) → List·Memᴰ a (flat f n)
 unfolding flat

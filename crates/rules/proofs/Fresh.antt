@@ -63,6 +63,10 @@ module _ {n τ δ : ℕ} {S : Contacts} {T : List ℕ} (f : Fresh n τ δ S T) w
   pub fresh-carry : carry T ≡ δ
   fresh-carry = ap carry (f .words) ∙ table-carry n τ δ (f .sizes) (f .cells)
 
+  -- A fresh table has the length for its numbers.
+  pub fresh-length : length T ≡ tableLength n τ
+  fresh-length = ap length (f .words) ∙ table-length n τ δ (f .sizes) (f .cells) fresh-good
+
   -- A fresh table passes 5 and 6.
   pub fresh-passes : Passes T
   fresh-passes = subst Passes (sym (f .words)) (table-passes n τ δ (f .sizes) (f .cells) fresh-good)

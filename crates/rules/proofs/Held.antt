@@ -1,26 +1,31 @@
--- The contacts that a table holds: which they are, and that they are listed in order.
+-- The contacts that a table holds: which they are, that they are listed in order, and how many they can be.
 use mathlib.Core.Path.{_≡_, refl, sym, ap, _∙_, subst}
 use mathlib.Core.Logic.{_↔_, _⊎_, inl, inr, ⊎-elim, _≢_}
 use mathlib.Core.Bool.{Bool, true, false, cond}
 use mathlib.Core.List.{List, [], _∷_, List·Memᴰ, List·Memᴰ·head, List·Memᴰ·tail, List·Memᴰ·not-nil}
-use Prim.Native.Nat.{ℕ, zero, suc, _+_, _-_, _≤_, _<_}
+use Prim.Native.Nat.{ℕ, zero, suc, _+_, _-_, _*_, _≤_, _<_}
+use native.Mathlib.Nat.{mul-le-mul-left}
 use native.Mathlib.Decide.{ℕ-discrete}
 use native.Mathlib.Omega.{arith}
+use lib.ListN.{length}
 use Rattle.journeys.specs.Journey.{Contact, contact, Contacts, interval}
 use Rattle.journeys.specs.Cell.{Cell}
 use Rattle.journeys.proofs.Tests.{Outcome, holds, fails}
 use Rattle.journeys.proofs.Theorems.{contacts-stand}
 use Rattle.rules.specs.Folds.{flat}
 use Rattle.rules.specs.Layout.{animals, ticks, carry, cellsOf}
+use Rattle.rules.specs.Checks.{Passes}
 use Rattle.rules.specs.Adding.{stands}
 use Rattle.rules.specs.Adding as Adding
 use Rattle.rules.specs.Logs.{held, heldContacts}
 use Rattle.rules.specs.Fresh.{Fresh}
 use Rattle.rules.specs.Demand3.{Sorted, Earlier}
-use Rattle.rules.proofs.Folds.{flat-member, member-flat}
+use Rattle.rules.proofs.Folds.{flat-few, flat-skip, flat-member, member-flat}
+use Rattle.rules.proofs.Sound.{table-sizes, passes-good}
 use Rattle.rules.proofs.Changes.{stands-outcome}
 use Rattle.rules.proofs.Fresh.{fresh-carry, fresh-animals, fresh-ticks, fresh-cells}
-use Rattle.rules.proofs.Sorted.{sorted-flat, sorted-one, member-one}
+use Rattle.rules.proofs.Distinct.{Once}
+use Rattle.rules.proofs.Sorted.{sorted-flat, sorted-one, member-one, sorted-once, earlier-irreflexive, earlier-transitive}
 
 module _ (T : List ℕ) where
   -- The contacts of tick t and animal u.
@@ -85,6 +90,10 @@ module _ (T : List ℕ) where
       order : (i j : ℕ) → i < j → j < ticks T → (a b : Contact) → List·Memᴰ a (rows i) → List·Memᴰ b (rows j) → Earlier a b
       order i j o h a b p q = inl (omega (arith, rows-at i a p .tick-is, rows-at j b q .tick-is))
 
+  -- No contact is listed twice.
+  pub held-once : Once (heldContacts T)
+  held-once = sorted-once Earlier earlier-irreflexive earlier-transitive (heldContacts T) held-sorted
+
   -- Which contacts are listed.
   pub record Listed (k : Contact) : Type 0 where
     pub from-below : k .from < animals T
@@ -114,6 +123,39 @@ module _ (T : List ℕ) where
         where
           here : Adding.holds T k ≡ true → List·Memᴰ k (held T k)
           here e = subst (λ b. List·Memᴰ k (cond b (k ∷ []) [])) (sym e) (List·Memᴰ·head refl)
+
+-- ---- how many
+
+-- A contact is held once or not at all.
+held-at-most : (b : Bool) (k : Contact) → length (cond b (k ∷ []) []) ≤ 1
+held-at-most true k = omega arith
+held-at-most false k = omega arith
+
+-- The words of a log are fewer than the end word's field can say: a table holds no more than n·(n−1)·τ contacts.
+pub held-few : (T : List ℕ) → Passes T → length (heldContacts T) + 2 < 0x400_0000
+unfolding heldContacts held Adding.holds
+held-few T p = last (flat-few (rows T) (n * (n - 1)) τ (λ t h. flat-few (row T t) (n - 1) n (λ u k. one-row t u k)))
+  where
+    n : ℕ
+    n = animals T
+
+    τ : ℕ
+    τ = ticks T
+
+    one-row : (t u : ℕ) → u < n → length (row T t u) ≤ n - 1
+    one-row t u h =
+        let e : length (held T (contact u u (t + 1))) ≡ 0 = rw (passes-good T p .diagonal u h) (unfold stands in refl) in
+        let a = flat-skip (λ v. held T (contact u v (t + 1))) u n h (λ v. held-at-most (Adding.holds T (contact u v (t + 1))) (contact u v (t + 1))) e in
+        omega arith
+
+    last : {m : ℕ} → m ≤ τ * (n * (n - 1)) → m + 2 < 0x400_0000
+    last {m} h =
+        let z = table-sizes T in
+        let h₂ : n - 1 ≤ 255 = omega (arith, z .n-high) in
+        let a : n * (n - 1) ≤ n * 255 = mul-le-mul-left n h₂ in
+        let b : n * (n - 1) ≤ 65280 = omega (arith, z .n-high) in
+        let c : τ * (n * (n - 1)) ≤ τ * 65280 = mul-le-mul-left τ b in
+        omega (arith, z .τ-high)
 
 -- ---- on a fresh table
 

@@ -12,7 +12,7 @@ use borrow.Author.Tests.{eq-eqb, ne-eqb, eqb-true, eqb-false, le-leb, leb-true, 
 use Rattle.journeys.specs.Journey.{Contact}
 use Rattle.rules.specs.declared.Refusal.{Refusal}
 use Rattle.rules.specs.declared.Refusal.the-variants.{AnimalsBeyondLimit, TicksBeyondLimit, CarryBeyondLimit, WrongLength, NotOpen, NotWellFormed, NoSuchAnimal, SameAnimal, TickOutOfRange}
-use Rattle.rules.specs.Answers.{ensure}
+use Rattle.rules.specs.Answers.{ensure, unless}
 use Rattle.rules.specs.Folds.{within}
 use Rattle.rules.specs.Layout.{tableLength, animals, ticks}
 use Rattle.rules.specs.Checks.{isOpen, wellFormed, Passes}
@@ -29,6 +29,11 @@ none-some o r p q = absurd (let z : _≡_ {A = ℕ} 0 1 = cc in omega arith)
 pub ensure-iff : (b : Bool) (r : Refusal) (o : Option Refusal) → (ensure b r o ≡ none) ↔ ((b ≡ true) × (o ≡ none))
 ensure-iff true r o = (λ e. (refl, e), λ e. e .1)
 ensure-iff false r o = (λ e. none-some (some r) r e refl, λ e. absurd (let z : _≡_ {A = ℕ} 0 1 = ap (λ (b : Bool). cond b 1 0) (e .0) in omega arith))
+
+-- By cases: refused and as it was, or accepted and changed.
+pub unless-cases : {A : Type 0} {a b : A} (o : Option Refusal) (P : Option Refusal → A → Type 0) → ((r : Refusal) → o ≡ some r → P (some r) b) → (o ≡ none → P none a) → P o (unless o a b)
+unless-cases none P f g = g refl
+unless-cases (some r) P f g = f r refl
 
 pub within-iff : (low k high : ℕ) → (within low k high ≡ true) ↔ ((low ≤ k) × (k ≤ high))
 within-iff low k high = (

@@ -4,6 +4,7 @@ pub mod Sound
 pub mod Changes
 pub mod Judged
 pub mod Fresh
+pub mod Reading
 pub mod Demand1
 pub mod Bits
 pub mod Asked
@@ -12,6 +13,7 @@ pub mod Sorted
 pub mod Held
 pub mod Runs
 pub mod Demand3
+pub mod LogsRead
 pub mod Determined
 pub mod Rejected
 pub mod Distinct
@@ -22,3 +24,5 @@ pub mod Demand2
 pub mod RejectedAnswers
 pub mod Examples
 pub mod Claims
+pub mod Session
+pub mod LogExamples

@@ -16,7 +16,7 @@ use Rattle.rules.proofs.Judged.{none-some}
 use Rattle.rules.proofs.Fresh.{fresh-accepts, add-fresh, fresh-map, open-fresh}
 
 -- The contacts of S and the legal ones of a list.
-abbrev Joined : ℕ → ℕ → Contacts → List Contact → Contacts
+abbrev pub Joined : ℕ → ℕ → Contacts → List Contact → Contacts
 Joined n τ S A k = S k ⊎ LegalOf n τ A k
 
 module _ (n τ : ℕ) (S : Contacts) (c : Contact) (A : List Contact) where
@@ -48,7 +48,7 @@ pub refused-leaves : (T : List ℕ) (k : Contact) (r : Refusal) → addRefusal T
 unfolding addLeaves
 refused-leaves T k r e = rw e
 
-run-joined : {n τ δ : ℕ} (A : List Contact) {S : Contacts} {T : List ℕ} → Fresh n τ δ S T → Fresh n τ δ (Joined n τ S A) (run engine T A)
+pub run-joined : {n τ δ : ℕ} (A : List Contact) {S : Contacts} {T : List ℕ} → Fresh n τ δ S T → Fresh n τ δ (Joined n τ S A) (run engine T A)
 unfolding run
 run-joined [] f = fresh-map f (λ k. (inl, ⊎-elim (λ s. s) (λ h. absurd (List·Memᴰ·not-nil (h .0)))))
 run-joined {n} {τ} {δ} (c ∷ A) {S} {T} f = go (addRefusal T c) refl (λ R U g. run-joined A g)

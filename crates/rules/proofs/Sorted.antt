@@ -9,6 +9,7 @@ use Rattle.rules.specs.Folds.{flat}
 use Rattle.journeys.specs.Journey.{Contact}
 use Rattle.rules.specs.Demand3.{First, Sorted, Earlier, Pair, Lower}
 use Rattle.rules.proofs.Folds.{member-flat}
+use Rattle.rules.proofs.Distinct.{Once}
 
 module _ {A : Type 0} (R : A → A → Type 0) where
   first-append : (a : A) (l m : List A) → First R a l → ((b : A) → List·Memᴰ b m → R a b) → First R a (l ++ m)
@@ -47,6 +48,11 @@ module _ {A : Type 0} (R : A → A → Type 0) (irreflexive : (a : A) → ¬ R a
   sorted-after : (a b : A) (l : List A) → Sorted R (a ∷ l) → List·Memᴰ b l → R a b
   sorted-after a b (c ∷ l) s (List·Memᴰ·head e) = subst (R a) (sym e) (s .0)
   sorted-after a b (c ∷ l) s (List·Memᴰ·tail m) = transitive a c b (s .0) (sorted-after c b l (s .1) m)
+
+  -- No element comes twice in a strictly sorted list.
+  pub sorted-once : (l : List A) → Sorted R l → Once l
+  sorted-once [] s = tt
+  sorted-once (a ∷ l) s = (λ m. irreflexive a (sorted-after a a l s m), sorted-once l (s .1))
 
   tail-members : (a b : A) (l m : List A) → a ≡ b → Sorted R (a ∷ l) → ((x : A) → List·Memᴰ x (a ∷ l) → List·Memᴰ x (b ∷ m)) → (x : A) → List·Memᴰ x l → List·Memᴰ x m
   tail-members a b l m e s f x p = go (List·Memᴰ·cases-cons (f x (List·Memᴰ·tail p)))

@@ -3,13 +3,15 @@ use Prim.Native.Nat.{ℕ, _+_, _*_, _^_}
 use mathlib.Core.Option.{Option, none, some}
 use mathlib.Core.Bool.{Bool, true, false}
 use Rattle.rules.specs.declared.Refusal.{Refusal}
-use Rattle.rules.specs.declared.Refusal.the-variants.{AnimalsBeyondLimit, TicksBeyondLimit, CarryBeyondLimit, WrongLength, NotOpen, NotWellFormed, NoSuchAnimal, SameAnimal, TickOutOfRange, ChainBufferTooShort, LogBufferTooShort}
+use Rattle.rules.specs.declared.Refusal.the-variants.{AnimalsBeyondLimit, TicksBeyondLimit, CarryBeyondLimit, WrongLength, NotOpen, NotWellFormed, NoSuchAnimal, SameAnimal, TickOutOfRange, ChainBufferTooShort, NotALog, NotAContact, IllegalContact, WrongEnd, LogBufferTooShort}
 use Rattle.rules.specs.declared.OpenAnswer.{OpenAnswer}
 use Rattle.rules.specs.declared.OpenAnswer.the-variants.{Opened, Refused as OpenRefused}
 use Rattle.rules.specs.declared.AddAnswer.{AddAnswer}
 use Rattle.rules.specs.declared.AddAnswer.the-variants.{New, Known, Refused as AddRefused}
 use Rattle.rules.specs.declared.WriteAnswer.{WriteAnswer}
 use Rattle.rules.specs.declared.WriteAnswer.the-variants.{Written, Refused as WriteRefused}
+use Rattle.rules.specs.declared.ReadAnswer.{ReadAnswer}
+use Rattle.rules.specs.declared.ReadAnswer.the-variants.{Read, Refused as ReadRefused}
 use Rattle.rules.specs.declared.AskAnswer.{AskAnswer}
 use Rattle.rules.specs.declared.AskAnswer.the-variants.{Yes, No, Refused as AskRefused}
 use Rattle.rules.specs.declared.TickAnswer.{TickAnswer}
@@ -29,6 +31,10 @@ numberOf NoSuchAnimal = 7
 numberOf SameAnimal = 8
 numberOf TickOutOfRange = 9
 numberOf ChainBufferTooShort = 10
+numberOf NotALog = 11
+numberOf NotAContact = 12
+numberOf IllegalContact = 13
+numberOf WrongEnd = 14
 numberOf LogBufferTooShort = 15
 
 -- A reply of the C interface: which answer in the upper 32 bits, its number in the lower 32.
@@ -47,6 +53,10 @@ addReply (AddRefused r) = reply 0 (numberOf r)
 abbrev pub writeReply : WriteAnswer → ℕ
 writeReply (Written k) = reply 1 k
 writeReply (WriteRefused r) = reply 0 (numberOf r)
+
+abbrev pub readReply : ReadAnswer → ℕ
+readReply (Read k) = reply 1 k
+readReply (ReadRefused r) = reply 0 (numberOf r)
 
 abbrev pub askReply : AskAnswer → ℕ
 askReply Yes = reply 1 0
@@ -81,6 +91,10 @@ addAnswerOf (some r) a = AddRefused r
 abbrev pub writeAnswerOf : Option Refusal → WriteAnswer → WriteAnswer
 writeAnswerOf none a = a
 writeAnswerOf (some r) a = WriteRefused r
+
+abbrev pub readAnswerOf : Option Refusal → ReadAnswer → ReadAnswer
+readAnswerOf none a = a
+readAnswerOf (some r) a = ReadRefused r
 
 -- Yes where the test passes, else no.
 abbrev pub askAnswerOf : Option Refusal → Bool → AskAnswer

@@ -8,6 +8,7 @@ use Rattle.rules.specs.declared.Refusal.{Refusal}
 use Rattle.rules.specs.declared.OpenAnswer.the-variants.{Opened, Refused as OpenRefused}
 use Rattle.rules.specs.declared.AddAnswer.the-variants.{Refused as AddRefused}
 use Rattle.rules.specs.declared.WriteAnswer.the-variants.{Refused as WriteRefused}
+use Rattle.rules.specs.declared.ReadAnswer.the-variants.{Read, Refused as ReadRefused}
 use Rattle.rules.specs.declared.SetAnswer.the-variants.{Refused as SetRefused}
 use Rattle.rules.specs.declared.ChainAnswer.the-variants.{Refused as ChainRefused}
 use Rattle.rules.specs.Layout.{animals, ticks}
@@ -15,6 +16,7 @@ use Rattle.rules.specs.Checks.{Passes}
 use Rattle.rules.specs.Opening.{openAnswer, openLeaves}
 use Rattle.rules.specs.Adding.{Legal, addAnswer, addLeaves}
 use Rattle.rules.specs.Logs.{writeAnswer, writeLeaves}
+use Rattle.rules.specs.Reading.{readAnswer, readLeaves}
 use Rattle.rules.specs.Questions.{reachedAnswer, reachedWords, reachedCount}
 use Rattle.rules.specs.Chains.{chainAnswer, chainLeaves}
 
@@ -25,6 +27,7 @@ pub record Demand1 : Type 0 where
   pub open-refused : (n τ δ : ℕ) (T : List ℕ) (r : Refusal) → openAnswer n τ δ T ≡ OpenRefused r → openLeaves n τ δ T ≡ T
   pub add-refused : (T : List ℕ) (k : Contact) (r : Refusal) → addAnswer T k ≡ AddRefused r → addLeaves T k ≡ T
   pub write-refused : (T B : List ℕ) (r : Refusal) → writeAnswer T B ≡ WriteRefused r → writeLeaves T B ≡ B
+  pub read-refused : (L T : List ℕ) (r : Refusal) → readAnswer L T ≡ ReadRefused r → readLeaves L T ≡ T
   pub chain-refused : (T : List ℕ) (u v first last : ℕ) (B : List ℕ) (r : Refusal) → chainAnswer T u v first last B ≡ ChainRefused r → chainLeaves T u v first last B ≡ B
   -- The other questions only read; a refused question for the animals reached gives an empty set.
   pub reached-refused : (T : List ℕ) (u first last : ℕ) (r : Refusal) → reachedAnswer T u first last ≡ SetRefused r
@@ -33,9 +36,11 @@ pub record Demand1 : Type 0 where
   pub open-length : (n τ δ : ℕ) (T : List ℕ) → length (openLeaves n τ δ T) ≡ length T
   pub add-length : (T : List ℕ) (k : Contact) → length (addLeaves T k) ≡ length T
   pub write-length : (T B : List ℕ) → length (writeLeaves T B) ≡ length B
+  pub read-length : (L T : List ℕ) → length (readLeaves L T) ≡ length T
   pub chain-length : (T : List ℕ) (u v first last : ℕ) (B : List ℕ) → length (chainLeaves T u v first last B) ≡ length B
-  -- Opening, and every add on a table that passes 5 and 6, leave a table that passes them.
+  -- Opening, reading a log, and every add on a table that passes 5 and 6, leave a table that passes them.
   pub open-passes : (n τ δ : ℕ) (T : List ℕ) → openAnswer n τ δ T ≡ Opened → Passes (openLeaves n τ δ T)
+  pub read-passes : (L T : List ℕ) (k : ℕ) → readAnswer L T ≡ Read k → Passes (readLeaves L T)
   pub add-passes : (T : List ℕ) (k : Contact) → Passes T → Passes (addLeaves T k)
   -- "Once a table is opened, no legal contact is refused for want of a row": on any table that passes 5 and 6 a legal
   -- contact is accepted.

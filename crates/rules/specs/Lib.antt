@@ -8,8 +8,11 @@ pub mod Logs
 pub mod Questions
 pub mod Chains
 pub mod Fresh
-pub mod Demand1
 pub mod Demand3
+pub mod Reading
+pub mod Demand1
+pub mod Sheet
+pub mod LogsRead
 pub mod Fitting
 pub mod Determined
 pub mod Wrong
@@ -18,3 +21,5 @@ pub mod ChainRule
 pub mod Demand2
 pub mod Examples
 pub mod WrongAnswers
+pub mod Session
+pub mod LogExamples

@@ -13,6 +13,10 @@ pub enum Refusal {
     SameAnimal,
     TickOutOfRange,
     ChainBufferTooShort,
+    NotALog,
+    NotAContact,
+    IllegalContact,
+    WrongEnd,
     LogBufferTooShort,
 }
 
@@ -33,6 +37,20 @@ pub enum AddAnswer {
 pub enum WriteAnswer {
     Written(u32),
     Refused(Refusal),
+}
+
+// What reading a log answers: the number of different contacts.
+pub enum ReadAnswer {
+    Read(u32),
+    Refused(Refusal),
+}
+
+// What a word between the first and the last of a log is: a legal contact, no contact word, or one whose contact is not
+// legal.
+pub enum LogWord {
+    Legal,
+    NoContact,
+    NotLegal,
 }
 
 // What a yes-or-no question answers.

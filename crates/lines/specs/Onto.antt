@@ -1,0 +1,20 @@
+-- A text at the front of a list, and the text of the rows of a table.
+use Prim.Native.Nat.{ℕ, _*_}
+use mathlib.Core.List.{List, _++_}
+use lib.ListN.{length, drop}
+use Rattle.rules.specs.Folds.{flat}
+use Rattle.rules.specs.Layout.{cellOf}
+use Rattle.rules.specs.Sheet.{cellText}
+use Rattle.parts.specs.Parts.{part}
+
+-- The text at the front of the list, the rest as it was.
+unfoldable pub onto : List ℕ → List ℕ → List ℕ
+onto text l = text ++ drop (length text) l
+
+-- The text of the v-th cell of the row of animal u, in cells of s words.
+unfoldable pub cellLine : ℕ → ℕ → List ℕ → ℕ → List ℕ
+cellLine s u row v = cellText u v (cellOf (part s v row))
+
+-- The text of the row of animal u, of n cells.
+unfoldable pub rowLines : ℕ → ℕ → List ℕ → ℕ → List ℕ
+rowLines s n body u = flat (cellLine s u (part (n * s) u body)) n

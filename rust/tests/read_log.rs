@@ -1,0 +1,1053 @@
+//! Reading logs, against the plain search over contacts and against document 01's text.
+
+use herd::compare::{same_table, same_words};
+use herd::ffi::log::{read_log, write_log, Read, Written};
+use herd::ffi::{self, Added, Opened};
+use herd::guard::{Guarded, Place};
+use herd::model::{self, Contacts};
+use herd::random::Random;
+use herd::words::{self, Cells, Contact, Interval, Opening};
+use herd::{calls, cases};
+use std::collections::BTreeMap;
+use std::fmt::Debug;
+
+/// How often each answer was met: a refusal at its number, a log that was read at 0.
+#[derive(Debug, Default)]
+struct Met([u32; 16]);
+
+impl Met {
+    /// Counts the answer.
+    fn note(&mut self, answer: Read) {
+        match answer {
+            Read::Contacts(_) => self.0[0] += 1,
+            Read::Refused(number) => self.0[number as usize] += 1,
+        }
+    }
+
+    /// Fails where one of these answers was met less often.
+    #[track_caller]
+    fn at_least(&self, times: u32, answers: &[usize]) {
+        let often = |&answer: &usize| self.0[answer] >= times;
+        assert!(answers.iter().all(often), "{answers:?} in {self:?}");
+    }
+}
+
+/// Reads the log into a copy of the words: the answer and every word as document 01 has them.
+#[track_caller]
+fn compare(log: &[u32], before: &[u32], case: impl Debug) -> Read {
+    let (expected, after) = calls::read_log(log, before);
+    let (kept, mut table) = (log.to_vec(), before.to_vec());
+    let answer = read_log(log, &mut table);
+    assert_eq!(answer, expected, "{case:?}: {log:08X?}");
+    same_words(&table, &after, &case);
+    same_words(log, &kept, &case);
+    answer
+}
+
+/// The set of the listed contacts.
+fn set(contacts: &[Contact]) -> Contacts {
+    contacts.iter().copied().collect()
+}
+
+/// The contacts of these numbers, in this order.
+fn listed(numbers: &[(u32, u32, u32)]) -> Vec<Contact> {
+    let contact = |&(u, v, t): &(u32, u32, u32)| Contact::new(u, v, t);
+    numbers.iter().map(contact).collect()
+}
+
+/// A longer opening, with a carry time above the ticks now and then.
+fn longer_opening(random: &mut Random) -> Opening {
+    let carries = [
+        random.between(1, 2),
+        random.between(1, 9),
+        random.between(40, 256),
+    ];
+    let carry = random.one_of(&carries);
+    Opening::new(random.between(2, 12), random.between(10, 40), carry)
+}
+
+/// The words that a table of this opening's length may hold before the call.
+fn held_before(random: &mut Random, opening: Opening) -> Vec<u32> {
+    let length = opening.table_words();
+    let other = Opening {
+        carry: random.between(1, 256),
+        ..opening
+    };
+    match random.below(6) {
+        0 => vec![0; length],
+        1 => vec![u32::MAX; length],
+        2 => words::table(opening, &cases::full_cells(opening)),
+        3 => words::table(other, &cases::cells(random, other)),
+        4 => {
+            let contacts = cases::log_contacts(random, opening, 12);
+            model::fresh_table(opening, &set(&contacts))
+        }
+        _ => random.words(length),
+    }
+}
+
+/// The contacts in several orders, some with each contact twice.
+fn orders(random: &mut Random, contacts: &[Contact]) -> Vec<Vec<Contact>> {
+    let drawn = contacts.to_vec();
+    let mut sorted = drawn.clone();
+    sorted.sort();
+    let backwards: Vec<Contact> = sorted.iter().rev().copied().collect();
+    let mut by_pair = drawn.clone();
+    by_pair.sort_by_key(|c| (c.to, c.from, c.tick));
+    let twice = [&sorted[..], &backwards[..]].concat();
+    let mut mixed = twice.clone();
+    random.shuffle(&mut mixed);
+    vec![drawn, sorted, backwards, by_pair, twice, mixed]
+}
+
+/// Whether the set has a journey of two contacts or more that is minimal.
+fn joins(opening: Opening, cells: &Cells) -> bool {
+    let joined = |i: &Interval| i.arrival - i.departure > opening.carry;
+    cells.iter().flatten().any(joined)
+}
+
+/// Reads the contacts in several orders into tables that held several things.
+fn compare_orders(
+    random: &mut Random,
+    opening: Opening,
+    contacts: &[Contact],
+    met: &mut BTreeMap<&str, u32>,
+) {
+    let different = set(contacts);
+    for order in orders(random, contacts) {
+        let before = held_before(random, opening);
+        let answer = compare(&words::log(opening, order), &before, opening);
+        assert_eq!(answer, Read::Contacts(different.len() as u32));
+    }
+    let cells = model::minimal_intervals(opening, &different);
+    for (name, has) in [
+        ("no contact", contacts.is_empty()),
+        ("repeats", different.len() < contacts.len()),
+        (
+            "last tick",
+            contacts.iter().any(|c| c.tick == opening.ticks),
+        ),
+        ("carry time above the ticks", opening.carry > opening.ticks),
+        ("joined journeys", joins(opening, &cells)),
+    ] {
+        *met.entry(name).or_insert(0) += u32::from(has);
+    }
+}
+
+#[test]
+fn session_of_document_01() {
+    let log = [
+        0x800C_0005,
+        0x4000_0400,
+        0x4000_0401,
+        0x4004_0C03,
+        0xC000_0003,
+    ];
+    let mut expected = vec![0; 113];
+    expected[0] = 0x800C_0005;
+    for cell in expected[1..].chunks_mut(7) {
+        cell[0] = 0xC000_0000;
+    }
+    expected[8..11].copy_from_slice(&[0xC000_0002, 0x4000_0802, 0x4000_1003]);
+    expected[22..24].copy_from_slice(&[0xC000_0001, 0x4000_1005]);
+    expected[50..52].copy_from_slice(&[0xC000_0001, 0x4000_2005]);
+    let mut random = Random::new(901);
+    for order in [
+        [1, 2, 3],
+        [1, 3, 2],
+        [2, 1, 3],
+        [2, 3, 1],
+        [3, 1, 2],
+        [3, 2, 1],
+    ] {
+        let mut table = random.words(113);
+        let [a, b, c] = order.map(|place| log[place]);
+        let answer = read_log(&[log[0], a, b, c, log[4]], &mut table);
+        assert_eq!(answer, Read::Contacts(3), "{order:?}");
+        same_words(&table, &expected, order);
+        let repeated = [log[0], a, b, b, c, a, a, 0xC000_0006];
+        table = random.words(113);
+        assert_eq!(read_log(&repeated, &mut table), Read::Contacts(3));
+        same_words(&table, &expected, order);
+    }
+}
+
+/// The intervals of the pair (x, y) after the log of these contacts is read.
+fn pair_read(
+    opening: Opening,
+    contacts: &[(u32, u32, u32)],
+    (x, y): (u32, u32),
+) -> Vec<(u32, u32)> {
+    let mut table = vec![7; opening.table_words()];
+    let answer = read_log(&words::log(opening, listed(contacts)), &mut table);
+    assert_eq!(answer, Read::Contacts(contacts.len() as u32));
+    let start = opening.cell_start(x, y);
+    let rows = words::read_count(table[start]).expect("a count word") as usize;
+    let intervals = table[start + 1..start + 1 + rows].iter();
+    let numbers = |&word: &u32| {
+        let interval = words::read_interval(word).expect("an interval word");
+        (interval.departure, interval.arrival)
+    };
+    intervals.map(numbers).collect()
+}
+
+#[test]
+fn marked_cells_of_document_01() {
+    let session = [(0, 1, 1), (0, 1, 2), (1, 3, 4)];
+    for (carry, cell) in [(1, (2, 5)), (2, (2, 6)), (3, (1, 7))] {
+        let opening = Opening::new(4, 6, carry);
+        assert_eq!(pair_read(opening, &session, (0, 3)), [cell]);
+    }
+    let five = [(0, 2, 1), (2, 3, 2), (0, 1, 1), (1, 3, 4), (3, 4, 6)];
+    let opening = Opening::new(5, 6, 1);
+    assert_eq!(pair_read(opening, &five, (0, 3)), [(1, 3)]);
+    assert_eq!(pair_read(opening, &five, (0, 4)), [(1, 7)]);
+}
+
+#[test]
+fn small_logs_in_many_orders() {
+    let mut random = Random::new(902);
+    let mut met = BTreeMap::new();
+    let mut alone = 0;
+    for _ in 0..1_500 {
+        let opening = cases::opening(&mut random);
+        let contacts = cases::log_contacts(&mut random, opening, 40);
+        compare_orders(&mut random, opening, &contacts, &mut met);
+        alone += u32::from(opening.animals == 1);
+    }
+    assert!(met.values().all(|&times| times > 100), "{met:?}");
+    assert!(met.len() == 5 && alone > 100, "{met:?} {alone}");
+}
+
+#[test]
+fn longer_logs_in_many_orders() {
+    let mut random = Random::new(903);
+    let mut met = BTreeMap::new();
+    for _ in 0..150 {
+        let opening = longer_opening(&mut random);
+        let most = random.one_of(&[10, 60, 400]);
+        let contacts = cases::log_contacts(&mut random, opening, most);
+        compare_orders(&mut random, opening, &contacts, &mut met);
+    }
+    met.remove("no contact");
+    assert!(met.values().all(|&times| times > 30), "{met:?}");
+}
+
+/// Every order of the items.
+fn permutations(items: &[Contact]) -> Vec<Vec<Contact>> {
+    if items.is_empty() {
+        return vec![Vec::new()];
+    }
+    let mut all = Vec::new();
+    for first in 0..items.len() {
+        let mut others = items.to_vec();
+        let chosen = others.remove(first);
+        for mut order in permutations(&others) {
+            order.push(chosen);
+            all.push(order);
+        }
+    }
+    all
+}
+
+#[test]
+fn every_order_leaves_the_same_table() {
+    let mut random = Random::new(904);
+    let mut joined = 0;
+    for _ in 0..250 {
+        let opening = Opening::new(
+            random.between(2, 4),
+            random.between(3, 9),
+            random.between(1, 2),
+        );
+        let contacts: Vec<Contact> = (0..5)
+            .map(|_| cases::contact(&mut random, opening))
+            .collect();
+        let cells = model::minimal_intervals(opening, &set(&contacts));
+        let expected = words::table(opening, &cells);
+        let number = Read::Contacts(set(&contacts).len() as u32);
+        for order in permutations(&contacts) {
+            let mut table = random.words(expected.len());
+            let answer = read_log(&words::log(opening, order.clone()), &mut table);
+            assert_eq!(answer, number, "{opening:?} {order:?}");
+            same_words(&table, &expected, (opening, &order));
+        }
+        joined += u32::from(joins(opening, &cells));
+    }
+    assert!(joined > 50, "{joined}");
+}
+
+#[test]
+fn shuffled_and_repeated_logs_leave_the_same_table() {
+    let mut random = Random::new(905);
+    for _ in 0..200 {
+        let opening = longer_opening(&mut random);
+        let mut contacts = cases::log_contacts(&mut random, opening, 300);
+        let mut first = random.words(opening.table_words());
+        let answer = read_log(&words::log(opening, contacts.clone()), &mut first);
+        assert_eq!(answer, Read::Contacts(set(&contacts).len() as u32));
+        for _ in 0..5 {
+            let more = random.below(contacts.len() + 1);
+            contacts.extend_from_within(..more.min(300));
+            random.shuffle(&mut contacts);
+            let mut table = held_before(&mut random, opening);
+            let again = read_log(&words::log(opening, contacts.clone()), &mut table);
+            assert_eq!(again, answer, "{opening:?}");
+            same_words(&table, &first, opening);
+        }
+    }
+}
+
+#[test]
+fn logs_without_contacts() {
+    let mut random = Random::new(906);
+    for (animals, ticks, carry) in [
+        (1, 1, 1),
+        (1, 1, 256),
+        (1, 1024, 256),
+        (2, 1, 1),
+        (2, 1024, 1),
+        (7, 5, 3),
+        (12, 40, 41),
+        (256, 1, 9),
+    ] {
+        let opening = Opening::new(animals, ticks, carry);
+        let log = words::log(opening, []);
+        assert_eq!(log.len(), 2);
+        let full = words::table(opening, &cases::full_cells(opening));
+        for before in [random.words(full.len()), full] {
+            let answer = compare(&log, &before, opening);
+            assert_eq!(answer, Read::Contacts(0), "{opening:?}");
+        }
+    }
+}
+
+#[test]
+fn logs_of_every_legal_contact() {
+    let mut random = Random::new(907);
+    for (animals, ticks, carry) in [
+        (2, 1, 1),
+        (3, 5, 2),
+        (7, 12, 14),
+        (2, 1024, 256),
+        (12, 40, 1),
+        (16, 64, 1),
+        (64, 3, 1),
+    ] {
+        let opening = Opening::new(animals, ticks, carry);
+        let legal = cases::legal_contacts(opening);
+        let cells = cases::full_cells(opening);
+        let mut mixed = legal.clone();
+        mixed.extend_from_slice(&legal[legal.len() / 2..]);
+        random.shuffle(&mut mixed);
+        let backwards = legal.iter().rev().copied().collect();
+        for order in [legal.clone(), backwards, mixed] {
+            let mut table = random.words(opening.table_words());
+            let answer = read_log(&words::log(opening, order), &mut table);
+            assert_eq!(answer, Read::Contacts(legal.len() as u32), "{opening:?}");
+            same_table(&table, opening, &cells, opening);
+        }
+    }
+}
+
+#[test]
+fn written_logs_give_the_table_back() {
+    let mut random = Random::new(908);
+    for turn in 0..2_000 {
+        let opening = if turn % 10 == 0 {
+            longer_opening(&mut random)
+        } else {
+            cases::opening(&mut random)
+        };
+        let contacts = set(&cases::log_contacts(&mut random, opening, 60));
+        let table = model::fresh_table(opening, &contacts);
+        let mut log = random.words(contacts.len() + 2);
+        let words = log.len() as u32;
+        assert_eq!(write_log(&table, &mut log), Written::Written(words));
+        let mut read = held_before(&mut random, opening);
+        let answer = read_log(&log, &mut read);
+        assert_eq!(answer, Read::Contacts(words - 2), "{opening:?}");
+        same_words(&read, &table, opening);
+    }
+}
+
+#[test]
+fn logs_read_are_written_sorted_and_once() {
+    let mut random = Random::new(909);
+    for _ in 0..1_000 {
+        let opening = cases::opening(&mut random);
+        let contacts = cases::log_contacts(&mut random, opening, 40);
+        let sorted = words::log(opening, set(&contacts));
+        let mut table = random.words(opening.table_words());
+        let answer = read_log(&words::log(opening, contacts), &mut table);
+        assert_eq!(answer, Read::Contacts(sorted.len() as u32 - 2));
+        let mut written = vec![0; sorted.len()];
+        let words = Written::Written(sorted.len() as u32);
+        assert_eq!(write_log(&table, &mut written), words, "{opening:?}");
+        same_words(&written, &sorted, opening);
+    }
+}
+
+#[test]
+fn reading_opens_and_adds_all() {
+    let mut random = Random::new(910);
+    for _ in 0..1_000 {
+        let opening = cases::opening(&mut random);
+        let (n, ticks, carry) = (opening.animals, opening.ticks, opening.carry);
+        let contacts = cases::log_contacts(&mut random, opening, 30);
+        let mut added = random.words(opening.table_words());
+        assert_eq!(ffi::open(&mut added, n, ticks, carry), Opened::Opened);
+        let mut new = 0;
+        for contact in &contacts {
+            match ffi::add(&mut added, contact.from, contact.to, contact.tick) {
+                Added::New(_) => new += 1,
+                Added::Known(_) => (),
+                Added::Refused(number) => panic!("{opening:?} {contact:?}: {number}"),
+            }
+        }
+        let mut read = random.words(opening.table_words());
+        let answer = read_log(&words::log(opening, contacts), &mut read);
+        assert_eq!(answer, Read::Contacts(new), "{opening:?}");
+        same_words(&read, &added, opening);
+    }
+}
+
+/// A good log with two contacts or more.
+struct Good {
+    opening: Opening,
+    contacts: Vec<Contact>,
+    log: Vec<u32>,
+}
+
+impl Good {
+    /// A small good log.
+    fn drawn(random: &mut Random) -> Good {
+        let opening = cases::opening_with_pairs(random);
+        let mut contacts = cases::log_contacts(random, opening, 10);
+        while contacts.len() < 2 {
+            contacts.push(cases::contact(random, opening));
+        }
+        let log = words::log(opening, contacts.clone());
+        Good {
+            opening,
+            contacts,
+            log,
+        }
+    }
+
+    /// A place between the first word and the last.
+    fn between(&self, random: &mut Random) -> usize {
+        1 + random.below(self.contacts.len())
+    }
+
+    /// The place of the last word.
+    fn last(&self) -> usize {
+        self.log.len() - 1
+    }
+
+    /// One of the contacts.
+    fn contact(&self, random: &mut Random) -> Contact {
+        random.one_of(&self.contacts)
+    }
+
+    /// The log with this word at the place.
+    fn with(&self, place: usize, word: u32) -> Vec<u32> {
+        let mut log = self.log.clone();
+        log[place] = word;
+        log
+    }
+
+    /// Words for the table before the call, of the length that the log asks for.
+    fn table(&self, random: &mut Random) -> Vec<u32> {
+        held_before(random, self.opening)
+    }
+}
+
+/// The word with another kind.
+fn other_kind(random: &mut Random, word: u32) -> u32 {
+    word ^ random.between(1, 3) << 30
+}
+
+/// The word with one of the unnamed bits 29–26.
+fn unnamed_bit(random: &mut Random, word: u32) -> u32 {
+    word | 1 << random.between(26, 29)
+}
+
+/// A wrong word for a good log.
+type Wrong = fn(&Good, &mut Random) -> u32;
+
+/// First words that are no opening word.
+const FIRST_11: [(&str, Wrong); 6] = [
+    ("first, unnamed bit", |good, random| {
+        unnamed_bit(random, good.log[0])
+    }),
+    ("first, another kind", |good, random| {
+        other_kind(random, good.log[0])
+    }),
+    ("first, a contact", |good, _| good.log[1]),
+    ("first, the end", |good, _| good.log[good.last()]),
+    ("first, zero", |_, _| 0),
+    ("first, every bit", |_, _| u32::MAX),
+];
+
+/// Words between that are no contact word.
+const BETWEEN_12: [(&str, Wrong); 7] = [
+    ("contact, unnamed bit", |good, random| {
+        let contact = good.contact(random);
+        unnamed_bit(random, words::contact_word(contact))
+    }),
+    ("contact, another kind", |good, random| {
+        let contact = good.contact(random);
+        other_kind(random, words::contact_word(contact))
+    }),
+    ("between, an end word", |good, random| {
+        let place = good.between(random);
+        words::end_word(place as u32 - 1)
+    }),
+    ("between, the last word", |good, _| good.log[good.last()]),
+    ("between, the opening word", |good, _| good.log[0]),
+    ("between, zero", |_, _| 0),
+    ("between, every bit", |_, _| u32::MAX),
+];
+
+/// Contact words whose contact is not legal.
+const BETWEEN_13: [(&str, Wrong); 9] = [
+    ("animal left, n", |good, random| {
+        let contact = good.contact(random);
+        words::contact_word(Contact::new(good.opening.animals, contact.to, contact.tick))
+    }),
+    ("animal left, 255", |good, random| {
+        let contact = good.contact(random);
+        words::contact_word(Contact::new(255, contact.to, contact.tick))
+    }),
+    ("animal met, n", |good, random| {
+        let contact = good.contact(random);
+        let met = good.opening.animals;
+        words::contact_word(Contact::new(contact.from, met, contact.tick))
+    }),
+    ("animal met, 255", |good, random| {
+        let contact = good.contact(random);
+        words::contact_word(Contact::new(contact.from, 255, contact.tick))
+    }),
+    ("one animal with itself", |good, random| {
+        let contact = good.contact(random);
+        words::contact_word(Contact::new(contact.to, contact.to, contact.tick))
+    }),
+    ("n with itself", |good, random| {
+        let n = good.opening.animals;
+        words::contact_word(Contact::new(n, n, good.contact(random).tick))
+    }),
+    ("tick, one after the last", |good, random| {
+        let contact = good.contact(random);
+        let late = good.opening.ticks + 1;
+        words::contact_word(Contact::new(contact.from, contact.to, late))
+    }),
+    ("tick, 1024", |good, random| {
+        let contact = good.contact(random);
+        words::contact_word(Contact::new(contact.from, contact.to, 1024))
+    }),
+    ("an interval word that names no animal", |_, random| {
+        words::interval_word(Interval::new(2047, random.between(0, 2047)))
+    }),
+];
+
+/// Last words that are no end word with the true count.
+const LAST_14: [(&str, Wrong); 8] = [
+    ("count, one more", |good, _| good.log[good.last()] + 1),
+    ("count, one less", |good, _| good.log[good.last()] - 1),
+    ("count, 0", |_, _| words::end_word(0)),
+    ("count, largest", |_, _| words::end_word(0x03FF_FFFF)),
+    ("end, unnamed bit", |good, random| {
+        unnamed_bit(random, good.log[good.last()])
+    }),
+    ("end, another kind", |good, random| {
+        other_kind(random, good.log[good.last()])
+    }),
+    ("last, a contact", |good, random| {
+        words::contact_word(good.contact(random))
+    }),
+    ("last, zero", |_, _| 0),
+];
+
+/// A good log with words moved, left out or put in.
+type Moved = fn(&Good, &mut Random) -> Vec<u32>;
+
+/// Such logs and their refusals.
+const MOVED: [(&str, u32, Moved); 17] = [
+    ("no word", 11, |_, _| Vec::new()),
+    ("an opening word alone", 11, |good, _| vec![good.log[0]]),
+    ("a contact alone", 11, |good, _| vec![good.log[1]]),
+    ("an end word alone", 11, |_, _| vec![words::end_word(0)]),
+    ("first dropped", 11, |good, _| good.log[1..].to_vec()),
+    ("backwards", 11, |good, _| {
+        good.log.iter().rev().copied().collect()
+    }),
+    ("first and another swapped", 11, |good, random| {
+        let mut log = good.log.clone();
+        log.swap(0, good.between(random));
+        log
+    }),
+    ("last and another swapped", 12, |good, random| {
+        let mut log = good.log.clone();
+        log.swap(good.between(random), good.last());
+        log
+    }),
+    ("a contact behind the end", 12, |good, random| {
+        let more = words::contact_word(good.contact(random));
+        [&good.log[..], &[more]].concat()
+    }),
+    ("a word behind the end", 12, |good, random| {
+        [&good.log[..], &[random.word()]].concat()
+    }),
+    ("the end twice", 12, |good, _| {
+        [&good.log[..], &good.log[good.last()..]].concat()
+    }),
+    ("the opening twice", 12, |good, _| {
+        [&good.log[..1], &good.log[..]].concat()
+    }),
+    ("two logs", 12, |good, _| good.log.repeat(2)),
+    ("last dropped", 14, |good, _| {
+        good.log[..good.last()].to_vec()
+    }),
+    ("a contact dropped", 14, |good, random| {
+        let mut log = good.log.clone();
+        log.remove(good.between(random));
+        log
+    }),
+    ("a contact twice", 14, |good, random| {
+        let mut log = good.log.clone();
+        let place = good.between(random);
+        log.insert(place, log[place]);
+        log
+    }),
+    ("repeats not counted", 14, |good, random| {
+        let mut contacts = good.contacts.clone();
+        contacts.push(good.contact(random));
+        let mut log = words::log(good.opening, contacts.clone());
+        log[contacts.len() + 1] = words::end_word(set(&contacts).len() as u32);
+        log
+    }),
+];
+
+/// Reads a wrong log into a table of the right length, and requires the refusal.
+fn refuse(good: &Good, random: &mut Random, log: &[u32], number: u32, name: &str) {
+    let answer = compare(log, &good.table(random), name);
+    assert_eq!(answer, Read::Refused(number), "{name}: {log:08X?}");
+}
+
+#[test]
+fn chosen_words_are_refused() {
+    let mut random = Random::new(911);
+    for _ in 0..1_500 {
+        let good = Good::drawn(&mut random);
+        for (number, wrongs) in [
+            (11, &FIRST_11[..]),
+            (12, &BETWEEN_12),
+            (13, &BETWEEN_13),
+            (14, &LAST_14),
+        ] {
+            for (name, wrong) in wrongs {
+                let place = match number {
+                    11 => 0,
+                    14 => good.last(),
+                    _ => good.between(&mut random),
+                };
+                let log = good.with(place, wrong(&good, &mut random));
+                refuse(&good, &mut random, &log, number, name);
+            }
+        }
+        for (name, number, moved) in MOVED {
+            let log = moved(&good, &mut random);
+            refuse(&good, &mut random, &log, number, name);
+        }
+    }
+}
+
+#[test]
+fn every_place_between_is_judged() {
+    let mut random = Random::new(912);
+    for _ in 0..300 {
+        let good = Good::drawn(&mut random);
+        for place in 1..good.last() {
+            for (number, wrongs) in [(12, &BETWEEN_12[..]), (13, &BETWEEN_13)] {
+                for (name, wrong) in wrongs {
+                    let log = good.with(place, wrong(&good, &mut random));
+                    refuse(&good, &mut random, &log, number, name);
+                }
+            }
+        }
+    }
+}
+
+#[test]
+fn an_interval_word_is_read_as_the_contact_of_its_bits() {
+    let opening = Opening::new(4, 6, 1);
+    let before = Random::new(913).words(opening.table_words());
+    for (departure, arrival, answer) in [
+        (1, 2, Read::Contacts(1)),
+        (1, 7, Read::Refused(13)),
+        (2, 3, Read::Refused(13)),
+        (0, 1024, Read::Contacts(1)),
+        (0, 0, Read::Refused(13)),
+        (128, 0, Read::Contacts(1)),
+    ] {
+        let word = words::interval_word(Interval::new(departure, arrival));
+        let log = [words::opening_word(opening), word, words::end_word(1)];
+        let found = compare(&log, &before, (departure, arrival));
+        assert_eq!(found, answer, "{departure} {arrival}");
+    }
+}
+
+/// Which of a log's words are wrong, and whether the table's length is.
+#[derive(Clone, Copy, Debug)]
+struct Defects {
+    first: bool,
+    length: bool,
+    earlier: Option<u32>,
+    later: Option<u32>,
+    end: bool,
+}
+
+impl Defects {
+    /// Every choice of defects.
+    fn all() -> Vec<Defects> {
+        let mut all = Vec::new();
+        let wrong = [None, Some(12), Some(13)];
+        for turn in 0..72 {
+            all.push(Defects {
+                first: turn % 2 == 1,
+                length: turn / 2 % 2 == 1,
+                end: turn / 4 % 2 == 1,
+                earlier: wrong[turn / 8 % 3],
+                later: wrong[turn / 24],
+            });
+        }
+        all
+    }
+
+    /// The refusal of the first check that finds a defect.
+    fn refusal(self) -> Option<u32> {
+        let first = self.first.then_some(11);
+        let length = self.length.then_some(4);
+        let end = self.end.then_some(14);
+        let words = self.earlier.or(self.later);
+        first.or(length).or(words).or(end)
+    }
+}
+
+/// One of the wrong words.
+fn any_of(wrongs: &[(&str, Wrong)], good: &Good, random: &mut Random) -> u32 {
+    wrongs[random.below(wrongs.len())].1(good, random)
+}
+
+/// A wrong word between for this refusal.
+fn wrong_between(number: u32, good: &Good, random: &mut Random) -> u32 {
+    match number {
+        12 => any_of(&BETWEEN_12, good, random),
+        _ => any_of(&BETWEEN_13, good, random),
+    }
+}
+
+/// The log and the table with these defects.
+fn defective(good: &Good, random: &mut Random, defects: Defects) -> (Vec<u32>, Vec<u32>) {
+    let (mut log, mut table) = (good.log.clone(), good.table(random));
+    if defects.first {
+        log[0] = any_of(&FIRST_11, good, random);
+    }
+    if defects.length {
+        let length = table.len();
+        table.resize(random.one_of(&[0, 1, length - 1, length + 1]), 9);
+    }
+    let earlier = 1 + random.below(good.contacts.len() - 1);
+    let later = random.between(earlier as u32 + 1, good.contacts.len() as u32) as usize;
+    for (place, number) in [(earlier, defects.earlier), (later, defects.later)] {
+        if let Some(number) = number {
+            log[place] = wrong_between(number, good, random);
+        }
+    }
+    if defects.end {
+        log[good.last()] = any_of(&LAST_14, good, random);
+    }
+    (log, table)
+}
+
+#[test]
+fn checks_run_in_order() {
+    let mut random = Random::new(914);
+    let mut met = Met::default();
+    let every = Defects::all();
+    for _ in 0..400 {
+        let good = Good::drawn(&mut random);
+        for &defects in &every {
+            let (log, table) = defective(&good, &mut random, defects);
+            let answer = compare(&log, &table, defects);
+            let expected = defects.refusal().map_or(
+                Read::Contacts(set(&good.contacts).len() as u32),
+                Read::Refused,
+            );
+            assert_eq!(answer, expected, "{defects:?}");
+            met.note(answer);
+        }
+    }
+    met.at_least(400, &[0, 4, 11, 12, 13, 14]);
+}
+
+/// The refusal that flipping this bit of a log of so many words brings in any case.
+fn certain_refusal(place: usize, bit: u32, words: usize) -> Option<Read> {
+    match (place, bit) {
+        _ if place == words - 1 => Some(Read::Refused(14)),
+        (0, 26..) => Some(Read::Refused(11)),
+        (_, 26..) => Some(Read::Refused(12)),
+        _ => None,
+    }
+}
+
+#[test]
+fn every_bit_of_small_logs() {
+    let mut random = Random::new(915);
+    let mut met = Met::default();
+    for _ in 0..120 {
+        let good = Good::drawn(&mut random);
+        for place in 0..good.log.len() {
+            for bit in 0..32 {
+                let log = good.with(place, good.log[place] ^ 1 << bit);
+                let case = (good.opening, place, bit);
+                let answer = compare(&log, &good.table(&mut random), case);
+                met.note(answer);
+                if let Some(certain) = certain_refusal(place, bit, log.len()) {
+                    assert_eq!(answer, certain, "{case:?}");
+                }
+            }
+        }
+    }
+    met.at_least(700, &[0, 4, 11, 12, 13, 14]);
+}
+
+#[test]
+fn every_bit_of_the_opening_with_the_table_it_asks_for() {
+    let mut random = Random::new(916);
+    let mut met = Met::default();
+    for _ in 0..200 {
+        let good = Good::drawn(&mut random);
+        for bit in 0..26 {
+            let log = good.with(0, good.log[0] ^ 1 << bit);
+            let asked = words::read_opening(log[0]).expect("an opening word");
+            if asked.table_words() < 20_000 {
+                let before = random.words(asked.table_words());
+                met.note(compare(&log, &before, (good.opening, bit)));
+            }
+        }
+    }
+    met.at_least(200, &[0, 13]);
+}
+
+#[test]
+fn random_damage() {
+    let mut random = Random::new(917);
+    let mut met = Met::default();
+    for _ in 0..60_000 {
+        let opening = cases::opening(&mut random);
+        let contacts = cases::log_contacts(&mut random, opening, 12);
+        let log = cases::damaged_log(&mut random, &words::log(opening, contacts));
+        let mut table = held_before(&mut random, opening);
+        if random.once_in(10) {
+            table.pop();
+        }
+        met.note(compare(&log, &table, opening));
+    }
+    met.at_least(1_000, &[0, 4, 11, 12, 13, 14]);
+}
+
+#[test]
+fn nothing_but_random_words() {
+    let mut random = Random::new(918);
+    let mut met = Met::default();
+    for _ in 0..20_000 {
+        let opening = cases::opening(&mut random);
+        let before = random.words(opening.table_words());
+        let length = random.below(12);
+        let mut log = random.words(length);
+        met.note(compare(&log, &before, "any first word"));
+        if log.len() < 2 {
+            continue;
+        }
+        let last = log.len() - 1;
+        log[0] = words::opening_word(opening);
+        met.note(compare(&log, &before, "an opening word"));
+        log[1..last].fill_with(|| 0x4000_0000 | random.word() & 0x03FF_FFFF);
+        met.note(compare(&log, &before, "contact words"));
+        log[last] = words::end_word(last as u32 - 1);
+        met.note(compare(&log, &before, "an end word"));
+    }
+    met.at_least(1_000, &[0, 11, 12, 13, 14]);
+}
+
+#[test]
+fn logs_of_no_word_one_and_two() {
+    let mut random = Random::new(919);
+    let opening = Opening::new(3, 4, 2);
+    let first = words::opening_word(opening);
+    let contact = words::contact_word(Contact::new(0, 1, 1));
+    let choices = [
+        first,
+        first | 1 << 26,
+        first | 1 << 29,
+        contact,
+        words::end_word(0),
+        words::end_word(1),
+        words::end_word(0) | 1 << 26,
+        0,
+        u32::MAX,
+    ];
+    let mut logs = vec![Vec::new()];
+    logs.extend(choices.map(|word| vec![word]));
+    logs.extend(choices.iter().flat_map(|&a| choices.map(|b| vec![a, b])));
+    let right = opening.table_words();
+    let mut met = Met::default();
+    for log in &logs {
+        for length in [0, 1, right - 1, right, right + 1] {
+            let answer = compare(log, &random.words(length), (log, length));
+            met.note(answer);
+            let expected = match log[..] {
+                [a, _] if a == first && length != right => Read::Refused(4),
+                [a, b] if a == first && b == words::end_word(0) => Read::Contacts(0),
+                [a, _] if a == first => Read::Refused(14),
+                _ => Read::Refused(11),
+            };
+            assert_eq!(answer, expected, "{log:08X?} {length}");
+        }
+    }
+    assert_eq!((met.0[0], met.0[4], met.0[14]), (1, 36, 8), "{met:?}");
+}
+
+#[test]
+fn tables_of_a_wrong_length() {
+    let mut random = Random::new(920);
+    let mut met = Met::default();
+    for _ in 0..1_500 {
+        let opening = cases::opening(&mut random);
+        let contacts = cases::log_contacts(&mut random, opening, 12);
+        let log = words::log(opening, contacts);
+        let right = opening.table_words();
+        let any = random.below(2 * right);
+        for length in [0, 1, right - 1, right, right + 1, right + 40, any] {
+            let answer = compare(&log, &random.words(length), (opening, length));
+            let refused = answer == Read::Refused(4);
+            assert_eq!(refused, length != right, "{opening:?} {length}");
+            met.note(answer);
+        }
+    }
+    met.at_least(1_500, &[0, 4]);
+    let one = Opening::new(1, 7, 1);
+    let two = Opening::new(2, 1, 1);
+    assert_eq!(one.table_words(), two.table_words());
+    let before = random.words(one.table_words());
+    for opening in [one, two] {
+        let answer = compare(&words::log(opening, []), &before, opening);
+        assert_eq!(answer, Read::Contacts(0));
+    }
+    for (animals, ticks) in [(2, 2), (3, 1), (1, 6), (1, 8), (256, 1024)] {
+        let other = Opening::new(animals, ticks, 1);
+        let answer = compare(&words::log(other, []), &before, other);
+        assert_eq!(answer, Read::Refused(4), "{other:?}");
+    }
+}
+
+#[test]
+fn empty_slices() {
+    let log = words::log(Opening::new(2, 1, 1), []);
+    assert_eq!(read_log(&[], &mut []), Read::Refused(11));
+    assert_eq!(read_log(&log[..1], &mut []), Read::Refused(11));
+    assert_eq!(read_log(&log, &mut []), Read::Refused(4));
+    let mut table = [1, 2, 3];
+    assert_eq!(read_log(&[], &mut table), Read::Refused(11));
+    assert_eq!(table, [1, 2, 3]);
+}
+
+#[test]
+fn a_damaged_table_is_no_matter() {
+    let mut random = Random::new(921);
+    for _ in 0..3_000 {
+        let opening = cases::opening(&mut random);
+        let mut before = words::table(opening, &cases::cells(&mut random, opening));
+        let place = random.below(before.len());
+        before[random.one_of(&[0, place])] ^= 1 << random.between(0, 31);
+        let contacts = cases::log_contacts(&mut random, opening, 12);
+        let number = Read::Contacts(set(&contacts).len() as u32);
+        let answer = compare(&words::log(opening, contacts), &before, opening);
+        assert_eq!(answer, number, "{opening:?}");
+    }
+}
+
+#[test]
+fn lengths_beyond_32_bits() {
+    let opening = Opening::new(2, 3, 1);
+    let log = words::log(opening, cases::legal_contacts(opening));
+    let right = opening.table_words();
+    let mut vast = Guarded::zero(Place::StartsAtGuard, right + (1 << 32));
+    assert_eq!(read_log(&log, &mut vast), Read::Refused(4));
+    assert!(vast[..200].iter().all(|&word| word == 0));
+    let mut vast = Guarded::zero(Place::StartsAtGuard, log.len() + (1 << 32));
+    vast[..log.len()].copy_from_slice(&log);
+    let mut table = vec![5; right];
+    assert_eq!(read_log(&vast, &mut table), Read::Refused(12));
+    assert_eq!(read_log(&vast, &mut table[1..]), Read::Refused(4));
+    vast[0] = 0;
+    assert_eq!(read_log(&vast, &mut table), Read::Refused(11));
+    assert_eq!(table, vec![5; right]);
+}
+
+#[test]
+fn logs_of_the_most_contact_words() {
+    let opening = Opening::new(2, 3, 1);
+    let most = (1 << 26) - 1;
+    let (one, other) = (Contact::new(0, 1, 2), Contact::new(1, 0, 3));
+    let mut log = vec![words::contact_word(one); most + 3];
+    log[0] = words::opening_word(opening);
+    log[most] = words::contact_word(other);
+    let before = vec![5; opening.table_words()];
+    let mut table = before.clone();
+    for end in [
+        words::end_word(0),
+        words::end_word(most as u32),
+        0xC400_0000,
+    ] {
+        log[most + 2] = end;
+        assert_eq!(read_log(&log, &mut table), Read::Refused(14), "{end:08X}");
+        same_words(&table, &before, end);
+    }
+    log[most + 1] = 0xC3FF_FFFF;
+    assert_eq!(read_log(&log[..most + 2], &mut table), Read::Contacts(2));
+    let expected = model::fresh_table(opening, &set(&[one, other]));
+    same_words(&table, &expected, "the most contact words");
+}
+
+#[test]
+fn the_largest_table() {
+    let opening = Opening::new(256, 1024, 256);
+    let length = opening.table_words();
+    assert_eq!(length, 67_174_401);
+    let contacts = listed(&[
+        (255, 254, 1024),
+        (254, 7, 257),
+        (7, 0, 513),
+        (0, 255, 769),
+        (3, 254, 1),
+        (254, 7, 1),
+        (7, 0, 512),
+        (7, 0, 513),
+        (255, 0, 1024),
+        (3, 254, 1),
+    ]);
+    let mut log = words::log(opening, contacts.clone());
+    let mut table = vec![0x5555_5555; length];
+    log[contacts.len() + 1] += 1;
+    assert_eq!(read_log(&log, &mut table), Read::Refused(14));
+    assert!(table.iter().all(|&word| word == 0x5555_5555));
+    log[contacts.len() + 1] -= 1;
+    assert_eq!(read_log(&log, &mut table), Read::Contacts(8));
+    let cells = model::minimal_intervals(opening, &set(&contacts));
+    same_table(&table, opening, &cells, "largest");
+    let joined = &cells[opening.pair(3, 255)];
+    assert_eq!(joined, &[Interval::new(1, 1025)]);
+}
