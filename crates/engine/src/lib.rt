@@ -38,6 +38,7 @@ pub fn number_of(refusal: Refusal) -> u32
         Refusal::IllegalContact => 13,
         Refusal::WrongEnd => 14,
         Refusal::LogBufferTooShort => 15,
+        Refusal::TallyFull => 16,
     }
 }
 

@@ -17,7 +17,7 @@ use Rattle.journeys.proofs.Rows.{rows-suffice}
 use Rattle.words.specs.Layout.{isOf}
 use Rattle.words.specs.Words.{openingLayout}
 use Rattle.rules.specs.declared.Refusal.{Refusal}
-use Rattle.rules.specs.declared.Refusal.the-variants.{AnimalsBeyondLimit, TicksBeyondLimit, CarryBeyondLimit, WrongLength, NotOpen, NotWellFormed, NoSuchAnimal, SameAnimal, TickOutOfRange, ChainBufferTooShort, NotALog, NotAContact, IllegalContact, WrongEnd, LogBufferTooShort}
+use Rattle.rules.specs.declared.Refusal.the-variants.{AnimalsBeyondLimit, TicksBeyondLimit, CarryBeyondLimit, WrongLength, NotOpen, NotWellFormed, NoSuchAnimal, SameAnimal, TickOutOfRange, ChainBufferTooShort, NotALog, NotAContact, IllegalContact, WrongEnd, LogBufferTooShort, TallyFull}
 use Rattle.rules.specs.declared.ReadAnswer.the-variants.{Read}
 use Rattle.rules.specs.Answers.{numberOf, unless, readAnswerOf}
 use Rattle.rules.specs.Folds.{flat}
@@ -145,6 +145,7 @@ number-small NotAContact = omega arith
 number-small IllegalContact = omega arith
 number-small WrongEnd = omega arith
 number-small LogBufferTooShort = omega arith
+number-small TallyFull = omega arith
 
 pub refused-short : (r : Refusal) → length (refusedText (numberOf r)) ≤ 11
 unfolding refusedText

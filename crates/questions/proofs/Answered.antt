@@ -25,7 +25,7 @@ use Rattle.cells.specs.Stored.{orZero}
 use Rattle.verdicts.specs.declared.Verdict.{Verdict}
 use Rattle.verdicts.specs.declared.Verdict.the-variants.{Passed, Refused}
 use Rattle.verdicts.specs.Verdicts.{verdictOf}
-use Rattle.verdicts.proofs.Groups.{verdict-refused, verdict-passed}
+use Rattle.verdicts.proofs.Groups.{table-group, verdict-refused, verdict-passed}
 use Rattle.questions.proofs.Pairs.{tick-none, tick-some, earliest-from-one, latest-from-one}
 
 -- ---- what the checks say
@@ -43,6 +43,10 @@ passes-of T o e =
     let b = ensure-iff (wellFormed T) NotWellFormed o .0 (a .1) in
     (record { opens = a .0; formed = b .0 }, b .1)
 
+-- On a table that passed the first two checks, the verdict is that of the checks behind them.
+pub behind-table : (T : List ℕ) → Passes T → (o : Option Refusal) (w : Verdict) → w ≡ verdictOf o → w ≡ verdictOf (ensureTable T o)
+behind-table T p o w e = rw (p .opens, p .formed) e
+
 -- Where nothing is refused behind the checks of a pair, both are animals of a table that passed.
 pair-accepted : (T : List ℕ) (u v : ℕ) (o : Option Refusal) → ensureTable T (ensurePair T u v o) ≡ none → Accepted T u v
 pair-accepted T u v o e =
@@ -55,6 +59,12 @@ pair-accepted T u v o e =
     }
 
 -- ---- reach
+
+-- A table that is refused is the answer.
+pub reach-table-refused : (T : List ℕ) (u v first last : ℕ) (w : Verdict) → w ≡ verdictOf (ensureTable T none) → (r : Refusal) → w ≡ Refused r → AskRefused r ≡ reachAnswer T u v first last
+unfolding reachAnswer reachRefusal
+reach-table-refused T u v first last w p r q =
+    rw (table-group T .refuses r (verdict-refused (ensureTable T none) r (sym p ∙ q)) (ensurePair T u v (ensureWindow T first last none))) refl
 
 module _ (T : List ℕ) (u v first last : ℕ) (w : Verdict) (p : w ≡ verdictOf (reachRefusal T u v first last)) where
   -- A refusal is the answer.

@@ -1,8 +1,21 @@
 // All checks of each question, in their order.
 ghost use mathlib.Core.Path.{_≡_};
+ghost use Rattle.rules.specs.Checks.{Passes};
 ghost use Rattle.rules.specs.Questions.{reachRefusal, momentRefusal, connectedRefusal, reachedRefusal};
 ghost use Rattle.verdicts.specs.Verdicts.{verdictOf};
 use verdicts::Verdict;
+
+// The checks of the question for reach behind 5 and 6, on a table that passed these.
+pub(crate) fn judge_reach_checked(table: &[u32], u: u32, v: u32, first: u32, last: u32) -> Verdict
+    requires { ⌜ Passes (now table) ⌝ }
+    ensures { λ r. ⌜ r ≡ verdictOf (reachRefusal (now (table .entry)) u v first last) ⌝ }
+{
+    let pair = verdicts::judge_pair(table, u, v);
+    match pair {
+        Verdict::Refused(r) => Verdict::Refused(r),
+        Verdict::Passed => verdicts::judge_window(table, first, last),
+    }
+}
 
 // The checks of the question for reach.
 pub fn judge_reach(table: &[u32], u: u32, v: u32, first: u32, last: u32) -> Verdict
@@ -11,13 +24,7 @@ pub fn judge_reach(table: &[u32], u: u32, v: u32, first: u32, last: u32) -> Verd
     let whole = verdicts::judge_table(table);
     match whole {
         Verdict::Refused(r) => Verdict::Refused(r),
-        Verdict::Passed => {
-            let pair = verdicts::judge_pair(table, u, v);
-            match pair {
-                Verdict::Refused(r) => Verdict::Refused(r),
-                Verdict::Passed => verdicts::judge_window(table, first, last),
-            }
-        }
+        Verdict::Passed => judge_reach_checked(table, u, v, first, last),
     }
 }
 

@@ -58,11 +58,12 @@ pub fn reaches(table: &[u32], u: u32, v: u32, first: u32, last: u32) -> bool
     soonest <= last
 }
 
-// Whether v can have been reached from u in the window. Refuses with 5, 6, 7, 8, 9.
-pub fn reach(table: &[u32], u: u32, v: u32, first: u32, last: u32) -> AskAnswer
+// Whether v can have been reached from u in the window, on a table that passed 5 and 6. Refuses with 7, 8, 9.
+pub fn reach_checked(table: &[u32], u: u32, v: u32, first: u32, last: u32) -> AskAnswer
+    requires { ⌜ Passes (now table) ⌝ }
     ensures { λ r. ⌜ r ≡ reachAnswer (now (table .entry)) u v first last ⌝ }
 {
-    let verdict = judged::judge_reach(table, u, v, first, last);
+    let verdict = judged::judge_reach_checked(table, u, v, first, last);
     match verdict {
         Verdict::Refused(r) => AskAnswer::Refused(r),
         Verdict::Passed => {
@@ -71,6 +72,17 @@ pub fn reach(table: &[u32], u: u32, v: u32, first: u32, last: u32) -> AskAnswer
             }
             AskAnswer::No
         }
+    }
+}
+
+// Whether v can have been reached from u in the window. Refuses with 5, 6, 7, 8, 9.
+pub fn reach(table: &[u32], u: u32, v: u32, first: u32, last: u32) -> AskAnswer
+    ensures { λ r. ⌜ r ≡ reachAnswer (now (table .entry)) u v first last ⌝ }
+{
+    let whole = verdicts::judge_table(table);
+    match whole {
+        Verdict::Refused(r) => AskAnswer::Refused(r),
+        Verdict::Passed => reach_checked(table, u, v, first, last),
     }
 }
 

@@ -22,6 +22,7 @@ use Rattle.rules.specs.Layout.{tableLength, animals, ticks}
 use Rattle.rules.specs.Reading.{isLog, between, isTrueEnd, isLegal, logWord, ensureLegal, ensureWords, readRefusal}
 use Rattle.rules.proofs.Folds.{and-left}
 use Rattle.cells.proofs.Checks.{stopped, passed}
+use Rattle.building.proofs.Filling.{contact-of-fields}
 use Rattle.verdicts.specs.declared.Verdict.{Verdict}
 use Rattle.verdicts.specs.declared.Verdict.the-variants.{Passed, Refused}
 use Rattle.verdicts.specs.Verdicts.{verdictOf}
@@ -40,10 +41,6 @@ pub log-long : (L : List ℕ) → isLog L ≡ true → 2 ≤ length L
 log-long L e = leb-true 2 (length L) (and-left (leb 2 (length L)) (isOf openingLayout (getD L 0 0)) e)
 
 -- ---- one word
-
--- The contact of the fields that were taken from a word is the word's.
-pub contact-is : (w u v t : ℕ) → u ≡ get fromField w → v ≡ get toField w → t ≡ get tickField w + 1 → contact u v t ≡ contactOf w
-contact-is w u v t p q r = ap₂ (λ (x y : ℕ). contact x y t) p q ∙ ap (λ (s : ℕ). contact (get fromField w) (get toField w) s) r
 
 module _ (u v t n τ : ℕ) where
   pub legal-from-beyond : n ≤ u → false ≡ isLegal n τ (contact u v t)
@@ -69,7 +66,7 @@ module _ (n τ w : ℕ) (a : Bool) (e : a ≡ isOf contactLayout w) where
 
   module _ (h : not a ≡ false) (u v t : ℕ) (p : u ≡ get fromField w) (q : v ≡ get toField w) (r : t ≡ get tickField w + 1) (b : Bool) (f : b ≡ isLegal n τ (contact u v t)) where
     legal-is : b ≡ isLegal n τ (contactOf w)
-    legal-is = f ∙ ap (isLegal n τ) (contact-is w u v t p q r)
+    legal-is = f ∙ ap (isLegal n τ) (contact-of-fields w u v t p q r)
 
     pub word-legal : b ≡ true → Legal ≡ logWord n τ w
     unfolding logWord

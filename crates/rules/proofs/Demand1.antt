@@ -1,5 +1,6 @@
 -- Demand 1 holds of the rules.
 use mathlib.Core.Path.{_≡_, refl, sym, ap, _∙_, subst}
+use mathlib.Core.Logic.{_↔_, _≢_}
 use mathlib.Core.Bool.{Bool, true, false, cond, not, _&&_}
 use mathlib.Core.Option.{Option, none, some}
 use mathlib.Core.List.{List, [], _++_, map}
@@ -16,13 +17,16 @@ use Rattle.rules.specs.declared.OpenAnswer.{OpenAnswer}
 use Rattle.rules.specs.declared.OpenAnswer.the-variants.{Opened, Refused as OpenRefused}
 use Rattle.rules.specs.declared.AddAnswer.{AddAnswer}
 use Rattle.rules.specs.declared.AddAnswer.the-variants.{New, Known, Refused as AddRefused}
-use Rattle.rules.specs.declared.Refusal.the-variants.{NotOpen, NotWellFormed, NoSuchAnimal, SameAnimal, TickOutOfRange, ChainBufferTooShort, LogBufferTooShort}
+use Rattle.rules.specs.declared.Refusal.the-variants.{NotOpen, NotWellFormed, NoSuchAnimal, SameAnimal, TickOutOfRange, ChainBufferTooShort, LogBufferTooShort, TallyFull}
+use Rattle.rules.specs.declared.Tally.{Tally}
+use Rattle.rules.specs.declared.Question.{Question}
+use Rattle.rules.specs.declared.ListAnswer.the-variants.{Refused as ListRefused}
 use Rattle.rules.specs.declared.WriteAnswer.the-variants.{Written, Refused as WriteRefused}
 use Rattle.rules.specs.declared.ReadAnswer.the-variants.{Read, Refused as ReadRefused}
 use Rattle.rules.specs.declared.SetAnswer.the-variants.{Refused as SetRefused}
 use Rattle.rules.specs.declared.ChainAnswer.the-variants.{Chain, NoJourney, Refused as ChainRefused}
 use Rattle.words.specs.Words.{contactWord}
-use Rattle.rules.specs.Answers.{unless, openAnswerOf, addAnswerOf, writeAnswerOf, readAnswerOf}
+use Rattle.rules.specs.Answers.{numberOf, ensure, unless, openAnswerOf, addAnswerOf, writeAnswerOf, readAnswerOf}
 use Rattle.rules.specs.Layout.{tableLength, tableWords, animals, ticks, carry, cellsOf}
 use Rattle.rules.specs.Checks.{isOpen, wellFormed, Passes}
 use Rattle.rules.specs.Opening.{openRefusal, openAnswer, openLeaves}
@@ -31,9 +35,11 @@ use Rattle.rules.specs.Logs.{heldContacts, logWords, writeRefusal, write
 use Rattle.rules.specs.Fresh.{Fresh}
 use Rattle.rules.specs.Demand3.{LegalOf}
 use Rattle.rules.specs.Reading.{loggedContacts, readRefusal, different, readAnswer, readLeaves}
-use Rattle.rules.specs.Folds.{countBelow}
+use Rattle.rules.specs.Folds.{countBelow, within}
 use Rattle.rules.specs.Questions.{windowInRange, inOrder, setAnswerOf, isReached, setWords, reachedRefusal, reachedAnswer, reachedWords, reachedCount}
 use Rattle.rules.specs.Chains.{nowhere, there, onward, leads, Lowest, nobody, animal, lowest, before, follow, chainFrom, fromDeparture, withArrival, chainOf, chainRefusal, chainAnswerOf, chainAnswer, chainWords, chainLeaves}
+use Rattle.rules.specs.Counting.{tallySum, countedAnswer, countedLeaves, raised, countedTally}
+use Rattle.rules.specs.QuestionList.{asked, listRefusal, listAnswerOf, listAnswer, listLeaves}
 use Rattle.rules.specs.Demand1.{Demand1}
 use Rattle.rules.proofs.Decode.{Good, table-length, table-passes}
 use Rattle.rules.proofs.Sound.{table-sizes, passes-good, opens-length}
@@ -41,6 +47,7 @@ use Rattle.rules.proofs.Judged.{ensure-iff, unless-cases, open-iff, add
 use Rattle.rules.proofs.Fresh.{add-good, empty-good, fresh-length, fresh-passes}
 use Rattle.rules.proofs.Runs.{run-fresh}
 use Rattle.rules.proofs.Reading.{Readable, read-iff, read-opens, log-length}
+use Rattle.rules.proofs.Counted.{counted-cases}
 
 -- ---- opening
 
@@ -99,6 +106,86 @@ add-length T k =
 add-passes : (T : List ℕ) (k : Contact) → Passes T → Passes (addLeaves T k)
 add-passes T k p =
     add-cases T k (λ o L. Passes L) (λ r e. p) (λ e. table-passes (animals T) (ticks T) (carry T) (table-sizes T) (addedCells T k) (added-good T k e))
+
+-- ---- counted adding
+
+-- A counted add that is refused leaves the table.
+counted-kept : (t : Tally) (T : List ℕ) (k : Contact) (r : Refusal) → countedAnswer t T k ≡ AddRefused r → countedLeaves t T k ≡ T
+counted-kept t T k r = counted-cases t T k (λ b a L s. a ≡ AddRefused r → L ≡ T) (λ h e. refl) (λ h e. add-kept T k r e)
+
+-- A refusal with another number than 16 is counted.
+counted-counts : (t : Tally) (T : List ℕ) (k : Contact) (r : Refusal) → countedAnswer t T k ≡ AddRefused r → r ≢ TallyFull
+    → countedTally t T k ≡ record { new = t .new; known = t .known; refused = t .refused + 1 }
+counted-counts t T k r =
+    counted-cases t T k (λ b a L s. a ≡ AddRefused r → r ≢ TallyFull → s ≡ record { new = t .new; known = t .known; refused = t .refused + 1 })
+    (λ h e d. absurd (d (let q : TallyFull ≡ r = cc in sym q))) (λ h e d. ap (λ (a : AddAnswer). raised a t) e)
+
+-- The number of a refusal, or 0.
+abbrev refusalNumber : Option Refusal → ℕ
+refusalNumber none = 0
+refusalNumber (some r) = numberOf r
+
+-- A check with a number up to 9, in front of such checks, gives no number above 9.
+ensure-up-to-nine : (b : Bool) (r : Refusal) (o : Option Refusal) → numberOf r ≤ 9 → refusalNumber o ≤ 9 → refusalNumber (ensure b r o) ≤ 9
+ensure-up-to-nine true r o h g = g
+ensure-up-to-nine false r o h g = h
+
+-- An add is refused with no number above 9.
+add-up-to-nine : (T : List ℕ) (k : Contact) → refusalNumber (addRefusal T k) ≤ 9
+unfolding addRefusal
+add-up-to-nine T k =
+    ensure-up-to-nine (isOpen T) NotOpen _ (omega arith)
+    (ensure-up-to-nine (wellFormed T) NotWellFormed _ (omega arith)
+    (ensure-up-to-nine (ltb (k .from) (animals T) && ltb (k .to) (animals T)) NoSuchAnimal _ (omega arith)
+    (ensure-up-to-nine (not (eqb (k .from) (k .to))) SameAnimal _ (omega arith)
+    (ensure-up-to-nine (within 1 (k .tick) (ticks T)) TickOutOfRange none (omega arith) (omega arith)))))
+
+-- An uncounted add never answers 16.
+add-not-full : (T : List ℕ) (k : Contact) → addAnswer T k ≡ AddRefused TallyFull → ⊥
+unfolding addAnswer
+add-not-full T k = go (addRefusal T k) (add-up-to-nine T k)
+  where
+    m : ℕ
+    m = cellsChanged (animals T) (cellsOf T) (addedCells T k)
+
+    go : (o : Option Refusal) → refusalNumber o ≤ 9 → addAnswerOf o (cond (holds T k) (Known m) (New m)) ≡ AddRefused TallyFull → ⊥
+    go none h e = known-or-new (holds T k) m TallyFull e
+    go (some r) h e = let q : r ≡ TallyFull = cc in let z : numberOf r ≡ 16 = ap numberOf q in omega arith
+
+-- 16 is answered exactly when the tally is full.
+counted-full : (t : Tally) (T : List ℕ) (k : Contact) → (countedAnswer t T k ≡ AddRefused TallyFull) ↔ (4294967295 ≤ t .new + t .known + t .refused)
+unfolding tallySum
+counted-full t T k =
+    counted-cases t T k (λ b a L s. (a ≡ AddRefused TallyFull) ↔ (4294967295 ≤ t .new + t .known + t .refused)) (λ h. (λ e. omega arith, λ q. refl))
+    (λ h. (λ e. absurd (add-not-full T k e), λ q. absurd (omega arith)))
+
+-- A full tally stays as it was.
+counted-full-kept : (t : Tally) (T : List ℕ) (k : Contact) → countedAnswer t T k ≡ AddRefused TallyFull → countedTally t T k ≡ t
+counted-full-kept t T k = counted-cases t T k (λ b a L s. a ≡ AddRefused TallyFull → s ≡ t) (λ h e. refl) (λ h e. absurd (add-not-full T k e))
+
+-- A counted add keeps the length of the table.
+counted-length : (t : Tally) (T : List ℕ) (k : Contact) → length (countedLeaves t T k) ≡ length T
+counted-length t T k = counted-cases t T k (λ b a L s. length L ≡ length T) (λ h. refl) (λ h. add-length T k)
+
+-- ---- a list of question records
+
+-- A refused list stays as it was.
+list-kept : (T : List ℕ) (l : List Question) (r : Refusal) → listAnswer T l ≡ ListRefused r → listLeaves T l ≡ l
+unfolding listAnswer listLeaves
+list-kept T l r = go (listRefusal T)
+  where
+    go : (o : Option Refusal) → listAnswerOf o (length l) ≡ ListRefused r → unless o (map (asked T) l) l ≡ l
+    go none e = absurd (let z : _≡_ {A = ℕ} 0 1 = cc in omega arith)
+    go (some s) e = refl
+
+-- A list keeps its length.
+list-length : (T : List ℕ) (l : List Question) → length (listLeaves T l) ≡ length l
+unfolding listLeaves
+list-length T l = go (listRefusal T)
+  where
+    go : (o : Option Refusal) → length (unless o (map (asked T) l) l) ≡ length l
+    go none = length-map l (asked T)
+    go (some r) = refl
 
 -- ---- writing a log
 
@@ -242,10 +329,17 @@ demand1 =
       read-refused = read-kept;
       reached-refused = reached-empty;
       chain-refused = chain-kept;
+      counted-refused = counted-kept;
+      list-refused = list-kept;
+      counted-counts = counted-counts;
+      counted-full = counted-full;
+      counted-full-kept = counted-full-kept;
       open-length = open-length;
       add-length = add-length;
       write-length = write-length;
       read-length = read-length;
+      counted-length = counted-length;
+      list-length = list-length;
       chain-length = chain-length;
       open-passes = open-passes;
       read-passes = read-passes;

@@ -195,3 +195,20 @@ pub count-same : (p q : ℕ → Bool) (n : ℕ) → ((k : ℕ) → k < n → p k
 unfolding countBelow
 count-same p q zero e = refl
 count-same p q (suc n) e = ap₂ _+_ (count-same p q n (λ k h. e k (omega arith))) (ap (λ (b : Bool). cond b 1 0) (e n (omega arith)))
+
+-- ---- lists mapped
+
+-- One more at the end.
+pub map-snoc : {A B : Type 0} (f : A → B) (l : List A) (a : A) → map f (l ++ (a ∷ [])) ≡ map f l ++ (f a ∷ [])
+map-snoc f [] a = refl
+map-snoc f (b ∷ l) a = ap (λ r. f b ∷ r) (map-snoc f l a)
+
+-- A member of a mapped list comes from one of the list.
+pub member-map : {A B : Type 0} (f : A → B) (l : List A) (b : B) → List·Memᴰ b (map f l) → (a : A) × List·Memᴰ a l × (b ≡ f a)
+member-map f [] b m = absurd (List·Memᴰ·not-nil m)
+member-map f (a ∷ l) b m = ⊎-elim (λ e. (a, List·Memᴰ·head refl, e)) (λ q. let r = member-map f l b q in (r .0, List·Memᴰ·tail (r .1), r .2)) (List·Memᴰ·cases-cons m)
+
+-- A member of the list goes to one of the mapped list.
+pub map-member : {A B : Type 0} (f : A → B) (l : List A) (a : A) → List·Memᴰ a l → List·Memᴰ (f a) (map f l)
+map-member f (b ∷ l) a (List·Memᴰ·head e) = List·Memᴰ·head (ap f e)
+map-member f (b ∷ l) a (List·Memᴰ·tail m) = List·Memᴰ·tail (map-member f l a m)

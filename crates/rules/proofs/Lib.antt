@@ -3,6 +3,8 @@ pub mod Decode
 pub mod Sound
 pub mod Changes
 pub mod Judged
+pub mod CountedExamples
+pub mod Counted
 pub mod Fresh
 pub mod Reading
 pub mod Demand1
@@ -17,6 +19,7 @@ pub mod LogsRead
 pub mod Determined
 pub mod Rejected
 pub mod Distinct
+pub mod CountedCalls
 pub mod Leads
 pub mod Chains
 pub mod ChainShown
@@ -26,3 +29,4 @@ pub mod Examples
 pub mod Claims
 pub mod Session
 pub mod LogExamples
+pub mod ListRule

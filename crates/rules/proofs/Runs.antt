@@ -20,7 +20,8 @@ abbrev pub Joined : ℕ → ℕ → Contacts → List Contact → Contacts
 Joined n τ S A k = S k ⊎ LegalOf n τ A k
 
 module _ (n τ : ℕ) (S : Contacts) (c : Contact) (A : List Contact) where
-  joined-legal : Legal n τ c → Same (Joined n τ (With S c) A) (Joined n τ S (c ∷ A))
+  -- A legal contact joins the set.
+  pub joined-legal : Legal n τ c → Same (Joined n τ (With S c) A) (Joined n τ S (c ∷ A))
   joined-legal l k = (to, of)
     where
       to : Joined n τ (With S c) A k → Joined n τ S (c ∷ A) k
@@ -32,7 +33,8 @@ module _ (n τ : ℕ) (S : Contacts) (c : Contact) (A : List Contact) where
       of (inl s) = inl (inl s)
       of (inr h) = ⊎-elim (λ e. inl (inr e)) (λ m. inr (m, h .1)) (List·Memᴰ·cases-cons (h .0))
 
-  joined-illegal : (¬ Legal n τ c) → Same (Joined n τ S A) (Joined n τ S (c ∷ A))
+  -- An illegal contact leaves it.
+  pub joined-illegal : (¬ Legal n τ c) → Same (Joined n τ S A) (Joined n τ S (c ∷ A))
   joined-illegal l k = (to, of)
     where
       to : Joined n τ S A k → Joined n τ S (c ∷ A) k

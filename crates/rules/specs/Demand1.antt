@@ -1,10 +1,15 @@
 -- Demand 1 of the tender, with its own words above its parts.
-use Prim.Native.Nat.{ℕ}
+use Prim.Native.Nat.{ℕ, _+_, _≤_}
 use mathlib.Core.Path.{_≡_}
+use mathlib.Core.Logic.{_↔_, _≢_}
 use mathlib.Core.List.{List}
 use lib.ListN.{length, replicate}
 use Rattle.journeys.specs.Journey.{Contact}
 use Rattle.rules.specs.declared.Refusal.{Refusal}
+use Rattle.rules.specs.declared.Refusal.the-variants.{TallyFull}
+use Rattle.rules.specs.declared.Tally.{Tally}
+use Rattle.rules.specs.declared.Question.{Question}
+use Rattle.rules.specs.declared.ListAnswer.the-variants.{Refused as ListRefused}
 use Rattle.rules.specs.declared.OpenAnswer.the-variants.{Opened, Refused as OpenRefused}
 use Rattle.rules.specs.declared.AddAnswer.the-variants.{Refused as AddRefused}
 use Rattle.rules.specs.declared.WriteAnswer.the-variants.{Refused as WriteRefused}
@@ -19,6 +24,8 @@ use Rattle.rules.specs.Logs.{writeAnswer, writeLeaves}
 use Rattle.rules.specs.Reading.{readAnswer, readLeaves}
 use Rattle.rules.specs.Questions.{reachedAnswer, reachedWords, reachedCount}
 use Rattle.rules.specs.Chains.{chainAnswer, chainLeaves}
+use Rattle.rules.specs.Counting.{countedAnswer, countedLeaves, countedTally}
+use Rattle.rules.specs.QuestionList.{listAnswer, listLeaves}
 
 -- Demand 1. That the memory lent is read and written only inside its ends, and that every call stops with an answer,
 -- is what the proof of each function says; here stands what it says of the words.
@@ -29,6 +36,13 @@ pub record Demand1 : Type 0 where
   pub write-refused : (T B : List ℕ) (r : Refusal) → writeAnswer T B ≡ WriteRefused r → writeLeaves T B ≡ B
   pub read-refused : (L T : List ℕ) (r : Refusal) → readAnswer L T ≡ ReadRefused r → readLeaves L T ≡ T
   pub chain-refused : (T : List ℕ) (u v first last : ℕ) (B : List ℕ) (r : Refusal) → chainAnswer T u v first last B ≡ ChainRefused r → chainLeaves T u v first last B ≡ B
+  pub counted-refused : (t : Tally) (T : List ℕ) (k : Contact) (r : Refusal) → countedAnswer t T k ≡ AddRefused r → countedLeaves t T k ≡ T
+  pub list-refused : (T : List ℕ) (l : List Question) (r : Refusal) → listAnswer T l ≡ ListRefused r → listLeaves T l ≡ l
+  -- "save that a counted add counts it unless its tally is full"
+  pub counted-counts : (t : Tally) (T : List ℕ) (k : Contact) (r : Refusal) → countedAnswer t T k ≡ AddRefused r → r ≢ TallyFull
+      → countedTally t T k ≡ record { new = t .new; known = t .known; refused = t .refused + 1 }
+  pub counted-full : (t : Tally) (T : List ℕ) (k : Contact) → (countedAnswer t T k ≡ AddRefused TallyFull) ↔ (4294967295 ≤ t .new + t .known + t .refused)
+  pub counted-full-kept : (t : Tally) (T : List ℕ) (k : Contact) → countedAnswer t T k ≡ AddRefused TallyFull → countedTally t T k ≡ t
   -- The other questions only read; a refused question for the animals reached gives an empty set.
   pub reached-refused : (T : List ℕ) (u first last : ℕ) (r : Refusal) → reachedAnswer T u first last ≡ SetRefused r
       → (reachedWords T u first last ≡ replicate 8 0) × (reachedCount T u first last ≡ 0)
@@ -37,6 +51,8 @@ pub record Demand1 : Type 0 where
   pub add-length : (T : List ℕ) (k : Contact) → length (addLeaves T k) ≡ length T
   pub write-length : (T B : List ℕ) → length (writeLeaves T B) ≡ length B
   pub read-length : (L T : List ℕ) → length (readLeaves L T) ≡ length T
+  pub counted-length : (t : Tally) (T : List ℕ) (k : Contact) → length (countedLeaves t T k) ≡ length T
+  pub list-length : (T : List ℕ) (l : List Question) → length (listLeaves T l) ≡ length l
   pub chain-length : (T : List ℕ) (u v first last : ℕ) (B : List ℕ) → length (chainLeaves T u v first last B) ≡ length B
   -- Opening, reading a log, and every add on a table that passes 5 and 6, leave a table that passes them.
   pub open-passes : (n τ δ : ℕ) (T : List ℕ) → openAnswer n τ δ T ≡ Opened → Passes (openLeaves n τ δ T)

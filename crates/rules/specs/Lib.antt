@@ -10,6 +10,8 @@ pub mod Chains
 pub mod Fresh
 pub mod Demand3
 pub mod Reading
+pub mod Counting
+pub mod QuestionList
 pub mod Demand1
 pub mod Sheet
 pub mod LogsRead
@@ -23,3 +25,5 @@ pub mod Examples
 pub mod WrongAnswers
 pub mod Session
 pub mod LogExamples
+pub mod CountedCalls
+pub mod ListRule

@@ -18,6 +18,7 @@ pub enum Refusal {
     IllegalContact,
     WrongEnd,
     LogBufferTooShort,
+    TallyFull,
 }
 
 // What opening answers.
@@ -89,5 +90,35 @@ pub struct ReachedAnswer {
 pub enum ChainAnswer {
     Chain(u32),
     NoJourney,
+    Refused(Refusal),
+}
+
+// The tally of counted adds: how many were new, known and refused.
+pub struct Tally {
+    pub new: u32,
+    pub known: u32,
+    pub refused: u32,
+}
+
+// The answer in a question record: not asked yet, yes, no, or a refusal's number.
+pub enum RecordAnswer {
+    Unasked,
+    Yes,
+    No,
+    Refused(u32),
+}
+
+// A question record: whether `to` can have been reached from `from` in the window from `first` to `last`.
+pub struct Question {
+    pub from: u32,
+    pub to: u32,
+    pub first: u32,
+    pub last: u32,
+    pub answer: RecordAnswer,
+}
+
+// What a list of question records answers: the number of its records.
+pub enum ListAnswer {
+    Answered(usize),
     Refused(Refusal),
 }

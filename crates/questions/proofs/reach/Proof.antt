@@ -1,47 +1,37 @@
--- `reach` meets its contract: each return is a case of the rule. Assumes nothing.
+-- `reach` meets its contract: a table refused is the answer, and else the answer is the one behind its checks. Assumes nothing.
 use borrow.Author.Needs.{needs}
-use Rattle.questions.proofs.Answered.{reach-refused, reach-accepted, reach-yes, reach-no}
+use Rattle.verdicts.proofs.Groups.{table-passed}
+use Rattle.questions.proofs.Answered.{reach-table-refused}
 use Rattle.questions.proofs.reach.Statement.{statement}
 use Rattle.questions.proofs.reach.Tie as tie
 
-judge-reach-requires : tie.Need-judge-reach-requires
-judge-reach-requires c κs = search needs
+judge-table-requires : tie.Need-judge-table-requires
+judge-table-requires c κs = search needs
 
-enum-known-verdict : tie.Need-enum-known-verdict
-enum-known-verdict c = search needs
+enum-known-whole : tie.Need-enum-known-whole
+enum-known-whole c = search needs
 
 enum-told : tie.Need-enum-told
 enum-told c = search needs
 
-reaches-requires : tie.Need-reaches-requires
-reaches-requires c κs =
-    let a = c .before .before .before .before .args in
-    let p = reach-accepted (a .table .now) (a .u) (a .v) (a .first) (a .last) _ (c .before .before .judge-reach .ensures) (c .enum-told .given .1) in
-    (p .passes, (p .from-below, p .to-below))
+reach-checked-requires : tie.Need-reach-checked-requires
+reach-checked-requires c κs = table-passed (c .before .before .before .before .args .table .now) _ (c .before .before .judge-table .ensures) (c .enum-told .given .1)
 
 returns : tie.Need-returns
 returns c =
-    let h = c .before .before in
-    let a = h .before .before .before .before .args in
-    reach-yes (a .table .now) (a .u) (a .v) (a .first) (a .last) _ (h .before .before .judge-reach .ensures) (h .enum-told .given .1) (c .before .reaches .ensures) (c .if1 .taken)
+    let a = c .before .before .before .before .before .args in
+    reach-table-refused (a .table .now) (a .u) (a .v) (a .first) (a .last) _ (c .before .before .before .judge-table .ensures) _ (c .before .whole .given .1)
 
 returns-2 : tie.Need-returns-2
-returns-2 c = let a = c .before .before .before .before .before .args in reach-refused (a .table .now) (a .u) (a .v) (a .first) (a .last) _ (c .before .before .before .judge-reach .ensures) _ (c .before .verdict .given .1)
-
-returns-3 : tie.Need-returns-3
-returns-3 c =
-    let h = c .before .before in
-    let a = h .before .before .before .before .args in
-    reach-no (a .table .now) (a .u) (a .v) (a .first) (a .last) _ (h .before .before .judge-reach .ensures) (h .enum-told .given .1) (c .before .reaches .ensures) (c .if1 .left)
+returns-2 c = search needs
 
 pub reach-spec : {M : Type 1} → statement M
 reach-spec =
     tie.close
     (tie.spec
-    judge-reach-requires
-    enum-known-verdict
+    judge-table-requires
+    enum-known-whole
     enum-told
-    reaches-requires
+    reach-checked-requires
     returns
-    returns-2
-    returns-3)
+    returns-2)

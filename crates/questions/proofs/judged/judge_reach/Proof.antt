@@ -1,8 +1,7 @@
 -- `judged::judge_reach` meets its contract: each return is the verdict of one group of checks. Assumes nothing.
-use mathlib.Core.Option.{none}
 use borrow.Author.Needs.{needs}
-use Rattle.rules.specs.Questions.{ensureWindow, reachRefusal}
-use Rattle.verdicts.proofs.Groups.{table-group, pair-group, group-refused, group-passed, table-long}
+use Rattle.rules.specs.Questions.{reachRefusal}
+use Rattle.verdicts.proofs.Groups.{table-group, group-refused, table-passed}
 use Rattle.questions.proofs.judged.judge_reach.Statement.{statement}
 use Rattle.questions.proofs.judged.judge_reach.Tie as tie
 
@@ -15,20 +14,8 @@ enum-known-whole c = search needs
 enum-told : tie.Need-enum-told
 enum-told c = search needs
 
-judge-pair-requires : tie.Need-judge-pair-requires
-judge-pair-requires c κs = let a = c .before .before .before .before .args in table-long (a .table .now) _ (c .before .before .judge-table .ensures) (c .enum-told .given .1)
-
-enum-known-pair : tie.Need-enum-known-pair
-enum-known-pair c = search needs
-
-enum-told-2 : tie.Need-enum-told-2
-enum-told-2 c = search needs
-
-judge-window-requires : tie.Need-judge-window-requires
-judge-window-requires c κs =
-    let h = c .before .before .before in
-    let a = h .before .before .before .before .args in
-    table-long (a .table .now) _ (h .before .before .judge-table .ensures) (h .enum-told .given .1)
+judge-reach-checked-requires : tie.Need-judge-reach-checked-requires
+judge-reach-checked-requires c κs = table-passed (c .before .before .before .before .args .table .now) _ (c .before .before .judge-table .ensures) (c .enum-told .given .1)
 
 returns : tie.Need-returns
 returns c =
@@ -36,20 +23,7 @@ returns c =
     unfold reachRefusal in group-refused (table-group (a .table .now)) _ (c .before .before .before .judge-table .ensures) _ (c .before .whole .given .1) _
 
 returns-2 : tie.Need-returns-2
-returns-2 c =
-    let h = c .before .before .before .before in
-    let a = h .before .before .before .before .args in
-    unfold reachRefusal in
-    group-passed (table-group (a .table .now)) _ (h .before .before .judge-table .ensures) (h .enum-told .given .1) _ _
-    (group-refused (pair-group (a .table .now) (a .u) (a .v)) _ (c .before .before .before .judge-pair .ensures) _ (c .before .pair .given .1) (ensureWindow (a .table .now) (a .first) (a .last) none))
-
-returns-3 : tie.Need-returns-3
-returns-3 c =
-    let h = c .before .before .before .before in
-    let a = h .before .before .before .before .args in
-    unfold reachRefusal in
-    group-passed (table-group (a .table .now)) _ (h .before .before .judge-table .ensures) (h .enum-told .given .1) _ _
-    (group-passed (pair-group (a .table .now) (a .u) (a .v)) _ (c .before .before .before .judge-pair .ensures) (c .before .enum-told2 .given .1) (ensureWindow (a .table .now) (a .first) (a .last) none) _ (c .judge-window .ensures))
+returns-2 c = search needs
 
 pub judge-reach-spec : {M : Type 1} → statement M
 judge-reach-spec =
@@ -58,10 +32,6 @@ judge-reach-spec =
     judge-table-requires
     enum-known-whole
     enum-told
-    judge-pair-requires
-    enum-known-pair
-    enum-told-2
-    judge-window-requires
+    judge-reach-checked-requires
     returns
-    returns-2
-    returns-3)
+    returns-2)

@@ -1,0 +1,11 @@
+pub mod Places
+pub mod InOrder
+pub mod Words
+pub mod Appending
+pub mod Marking
+pub mod Joined
+pub mod Planned
+pub mod Turned
+pub mod Through
+pub mod Filling
+pub mod Tabled

@@ -1,0 +1,3 @@
+pub mod Last
+pub mod Marks
+pub mod Stage

@@ -1,0 +1,61 @@
+// One cell while it is built: rows in use, and marks behind them.
+ghost use mathlib.Core.Path.{_≡_};
+ghost use Prim.Native.Nat.{_+_, _≤_, _<_};
+ghost use lib.ListN.{length, drop};
+ghost use Rattle.journeys.specs.Journey.{interval};
+ghost use Rattle.journeys.specs.Cell.{latestDeparture};
+ghost use Rattle.rules.specs.Layout.{cellOf};
+ghost use Rattle.cells.specs.Stored.{orZero};
+ghost use Rattle.building.specs.Last.{putLast, withRows, InUse};
+
+// The latest departure of the rows in use that arrives by t, or 0 where there is none, found by halves.
+fn search_departure(cell: &[u32], t: u32) -> u32
+    requires { ⌜ InUse (now cell) ⌝ }
+    ensures { λ r. ⌜ r ≡ orZero (latestDeparture (cellOf (now (cell .entry))) t) ⌝ }
+{
+    let end = words::rows_of(cell[0]) as usize + 1;
+    let last = cells::arrived_by(&cell[1..end], t);
+    if last == 0 {
+        return 0;
+    }
+    words::departure_of(cell[last])
+}
+
+// The latest departure of the rows in use that arrives by t, or 0 where there is none. The last row is looked at first, since
+// it is the one in most cells of a build.
+pub(crate) fn departure_by(cell: &[u32], t: u32) -> u32
+    requires { ⌜ InUse (now cell) ⌝ }
+    ensures { λ r. ⌜ r ≡ orZero (latestDeparture (cellOf (now (cell .entry))) t) ⌝ }
+{
+    let end = words::rows_of(cell[0]) as usize;
+    if end == 0 {
+        return 0;
+    }
+    let w = cell[end];
+    if words::arrival_of(w) <= t {
+        return words::departure_of(w);
+    }
+    search_departure(cell, t)
+}
+
+// Puts [d, a] at the end of the rows in use.
+pub(crate) fn append(cell: &mut [u32], d: u32, a: u32)
+    requires { ⌜ InUse (now cell) ⌝ }
+    requires { ⌜ (1 ≤ d) × (d < length (now cell)) × (a < 2048) ⌝ }
+    ensures { λ _. ⌜ now (cell .exit) ≡ withRows (putLast (interval d a) (cellOf (now (cell .entry)))) (drop (length (putLast (interval d a) (cellOf (now (cell .entry)))) + 1) (now (cell .entry))) ⌝ }
+{
+    let last = words::rows_of(cell[0]) as usize;
+    let w = words::interval_word(d, a);
+    if last > 0 {
+        if d <= words::departure_of(cell[last]) {
+            return;
+        }
+        if a <= words::arrival_of(cell[last]) {
+            cell[last] = w;
+            return;
+        }
+    }
+    let end = last + 1;
+    cell[end] = w;
+    cell[0] = words::count_word(end as u32);
+}

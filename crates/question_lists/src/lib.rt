@@ -1,0 +1,93 @@
+// Lists of question records, each answered in its own record. The table is checked once for the whole list.
+ghost use mathlib.Core.Path.{_≡_};
+ghost use mathlib.Core.List.{[], _∷_};
+ghost use Rattle.rules.specs.Checks.{Passes};
+ghost use Rattle.rules.specs.QuestionList.{recordAnswerOf, asked, listAnswer, listLeaves};
+ghost use Rattle.question_lists.specs.Plans.{planFor};
+use rules::AskAnswer;
+use rules::ListAnswer;
+use rules::Question;
+use rules::RecordAnswer;
+use verdicts::Verdict;
+
+// How many records of a list are answered, none where the table is refused, and what the list answers.
+pub struct Plan {
+    pub count: usize,
+    pub answer: ListAnswer,
+}
+
+// What a record holds for the answer of a single reach.
+fn record_answer(reply: AskAnswer) -> RecordAnswer
+    ensures { λ r. ⌜ r ≡ recordAnswerOf reply ⌝ }
+{
+    match reply {
+        AskAnswer::Yes => RecordAnswer::Yes,
+        AskAnswer::No => RecordAnswer::No,
+        AskAnswer::Refused(r) => {
+            let number = engine::number_of(r);
+            RecordAnswer::Refused(number)
+        }
+    }
+}
+
+// One record filled as a single reach would answer, on a table that passed 5 and 6.
+pub fn asked(table: &[u32], q: Question) -> Question
+    requires { ⌜ Passes (now table) ⌝ }
+    ensures { λ r. ⌜ r ≡ asked (now (table .entry)) q ⌝ }
+{
+    let reply = questions::reach_checked(table, q.from, q.to, q.first, q.last);
+    let answer = record_answer(reply);
+    Question {
+        from: q.from,
+        to: q.to,
+        first: q.first,
+        last: q.last,
+        answer,
+    }
+}
+
+// What is done with a list of n records.
+pub fn plan_for(table: &[u32], n: usize) -> Plan
+    ensures { λ r. ⌜ r ≡ planFor (now (table .entry)) n ⌝ }
+{
+    let whole = verdicts::judge_table(table);
+    match whole {
+        Verdict::Refused(r) => Plan {
+            count: 0,
+            answer: ListAnswer::Refused(r),
+        },
+        Verdict::Passed => Plan {
+            count: n,
+            answer: ListAnswer::Answered(n),
+        },
+    }
+}
+
+// Fills each record of the list, and answers the number of records. 5 and 6 refuse the whole list.
+pub fn ask_all(table: &[u32], list: &mut [Question]) -> ListAnswer
+    ensures { λ r. ⌜ (now (list .exit) ≡ listLeaves (now (table .entry)) (now (list .entry))) × (r ≡ listAnswer (now (table .entry)) (now (list .entry))) ⌝ }
+{
+    let p = plan_for(table, list.len());
+    let n = p.count;
+    let mut i: usize = 0;
+    while i < n {
+        list[i] = asked(table, list[i]);
+        i += 1;
+    }
+    p.answer
+}
+
+// Four records, and what a list of them answered.
+pub struct Four {
+    pub list: [Question; 4],
+    pub answer: ListAnswer,
+}
+
+// A list of four records by value: it is lent to `ask_all` and handed back.
+pub fn ask_four(table: &[u32], a: Question, b: Question, c: Question, d: Question) -> Four
+    ensures { λ r. ⌜ (r .list ≡ listLeaves (now (table .entry)) (a ∷ b ∷ c ∷ d ∷ [])) × (r .answer ≡ listAnswer (now (table .entry)) (a ∷ b ∷ c ∷ d ∷ [])) ⌝ }
+{
+    let mut list = [a, b, c, d];
+    let answer = ask_all(table, &mut list);
+    Four { list, answer }
+}

@@ -1,0 +1,53 @@
+-- What a tally means after a list of counted calls (document 01, "Adding a contact").
+use Prim.Native.Nat.{ℕ, _≤_}
+use mathlib.Core.Path.{_≡_}
+use mathlib.Core.Logic.{_↔_}
+use mathlib.Core.Bool.{cond}
+use mathlib.Core.List.{List, [], _∷_, List·Memᴰ}
+use lib.ListN.{length}
+use Rattle.journeys.specs.Journey.{Contact}
+use Rattle.rules.specs.declared.Tally.{Tally}
+use Rattle.rules.specs.Fresh.{Fresh}
+use Rattle.rules.specs.Demand3.{Sorted, Earlier, LegalOf}
+use Rattle.rules.specs.Counting.{tallySum, hasRoom, countedTally, countedLeaves}
+
+-- A tally and a table.
+pub record Kept : Type 0 where
+  pub tally : Tally
+  pub table : List ℕ
+
+-- What a counted call leaves.
+abbrev pub countedCall : Kept → Contact → Kept
+countedCall s k = record { tally = countedTally (s .tally) (s .table) k; table = countedLeaves (s .tally) (s .table) k }
+
+-- What a list of counted calls leaves.
+unfoldable pub runCounted : Kept → List Contact → Kept
+runCounted s [] = s
+runCounted s (k ∷ A) = runCounted (countedCall s k) A
+
+-- The calls of the list that are not refused with 16, in their order.
+unfoldable pub counted : Kept → List Contact → List Contact
+counted s [] = []
+counted s (k ∷ A) = cond (hasRoom (s .tally)) (k ∷ counted (countedCall s k) A) (counted (countedCall s k) A)
+
+-- A zero tally beside a table.
+abbrev pub zeroTally : List ℕ → Kept
+zeroTally T = record { tally = record { new = 0; known = 0; refused = 0 }; table = T }
+
+-- "From a zero tally and a fresh table, after counted adds only": T is fresh over no contacts, A is any list of calls.
+module _ (n τ δ : ℕ) (T : List ℕ) (A : List Contact) where
+  pub record CountedCalls : Type 0 where
+    -- "new is the number of different contacts accepted": the legal contacts of the calls counted, each once
+    pub accepted : List Contact
+    pub once : Sorted Earlier accepted
+    pub those : (k : Contact) → List·Memᴰ k accepted ↔ LegalOf n τ (counted (zeroTally T) A) k
+    pub new-is : runCounted (zeroTally T) A .tally .new ≡ length accepted
+    -- "and the three sum to the number of calls (those refused with 16 left out)"
+    pub sum-is : tallySum (runCounted (zeroTally T) A .tally) ≡ length (counted (zeroTally T) A)
+    -- The table is fresh over the legal contacts of the calls counted.
+    pub fresh : Fresh n τ δ (LegalOf n τ (counted (zeroTally T) A)) (runCounted (zeroTally T) A .table)
+    -- No call is refused with 16 while there are 4,294,967,295 or fewer.
+    pub all-counted : length A ≤ 4294967295 → counted (zeroTally T) A ≡ A
+
+abbrev pub AllCountedCalls : Type 0
+AllCountedCalls = (n τ δ : ℕ) (T : List ℕ) → Fresh n τ δ (λ k. ⊥) T → (A : List Contact) → CountedCalls n τ δ T A

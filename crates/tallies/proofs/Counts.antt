@@ -1,0 +1,62 @@
+-- What a counted add answers and leaves, from what its sum and its inner functions say.
+use mathlib.Core.Path.{_≡_, sym, ap, _∙_}
+use mathlib.Core.Bool.{true}
+use mathlib.Core.List.{List}
+use Prim.Native.Nat.{ℕ, _+_, _≤_, _<_}
+use native.Mathlib.Omega.{arith}
+use borrow.Author.Tests.{ltb-true}
+use Rattle.journeys.specs.Journey.{Contact}
+use Rattle.rules.specs.declared.Refusal.{Refusal}
+use Rattle.rules.specs.declared.Refusal.the-variants.{TallyFull}
+use Rattle.rules.specs.declared.AddAnswer.{AddAnswer}
+use Rattle.rules.specs.declared.AddAnswer.the-variants.{New, Known, Refused}
+use Rattle.rules.specs.declared.Tally.{Tally}
+use Rattle.rules.specs.Adding.{addAnswer, addLeaves}
+use Rattle.rules.specs.Counting.{tallySum, hasRoom, countedAnswer, countedLeaves, raised, countedTally}
+use Rattle.rules.proofs.Counted.{has-room, full-tally, full-answer, full-leaves, room-tally, room-answer, room-leaves}
+
+-- A tally has room where its sum is below 4,294,967,295.
+pub room-passes : (t : Tally) (s : ℕ) → s ≡ tallySum t → s < 4294967295 → hasRoom t ≡ true
+room-passes t s e h = has-room t (omega arith)
+
+-- The three numbers of a tally with room sum to less than 4,294,967,295.
+pub room-left : (t : Tally) → hasRoom t ≡ true → t .new + t .known + t .refused < 4294967295
+unfolding hasRoom tallySum
+room-left t e = ltb-true (t .new + t .known + t .refused) 4294967295 e
+
+module _ (t : Tally) (T : List ℕ) (k : Contact) (s : ℕ) (e : s ≡ tallySum t) where
+  -- A full tally refuses with 16, and all stays as it was.
+  pub full-refused : 4294967295 ≤ s → (t ≡ countedTally t T k) × ((Refused TallyFull ≡ countedAnswer t T k) × (T ≡ countedLeaves t T k))
+  full-refused h =
+      let f : 4294967295 ≤ tallySum t = omega arith in
+      (sym (full-tally t T k f), (sym (full-answer t T k f), sym (full-leaves t T k f)))
+
+  -- With room the answer and the words are those of the uncounted add, and the number that counts the answer is raised.
+  pub room-counted : s < 4294967295 → (r : Tally) (a : AddAnswer) (U : List ℕ) → r ≡ raised a t → a ≡ addAnswer T k → U ≡ addLeaves T k
+      → (r ≡ countedTally t T k) × ((a ≡ countedAnswer t T k) × (U ≡ countedLeaves t T k))
+  room-counted h r a U p q g =
+      let f : tallySum t < 4294967295 = omega arith in (
+        p ∙ ap (λ (b : AddAnswer). raised b t) q ∙ sym (room-tally t T k f),
+        (q ∙ sym (room-answer t T k f), g ∙ sym (room-leaves t T k f)),
+      )
+
+-- The tally of three numbers.
+abbrev pub tallyOf : ℕ → ℕ → ℕ → Tally
+tallyOf n k r = record { new = n; known = k; refused = r }
+
+-- Tallies with the same three numbers are the same.
+same-tally : {n k r n′ k′ r′ : ℕ} → n ≡ n′ → k ≡ k′ → r ≡ r′ → tallyOf n k r ≡ tallyOf n′ k′ r′
+same-tally e f g = λ i. record { new = e i; known = f i; refused = g i }
+
+module _ (t : Tally) (a : AddAnswer) (n k r : ℕ) where
+  -- The tally that a new contact leaves.
+  pub new-raised : (c : ℕ) → a ≡ New c → n ≡ t .new + 1 → k ≡ t .known → r ≡ t .refused → tallyOf n k r ≡ raised a t
+  new-raised c q e f g = same-tally e f g ∙ sym (ap (λ (b : AddAnswer). raised b t) q)
+
+  -- The tally that a known contact leaves.
+  pub known-raised : (c : ℕ) → a ≡ Known c → n ≡ t .new → k ≡ t .known + 1 → r ≡ t .refused → tallyOf n k r ≡ raised a t
+  known-raised c q e f g = same-tally e f g ∙ sym (ap (λ (b : AddAnswer). raised b t) q)
+
+  -- The tally that a refused call leaves.
+  pub refused-raised : (s : Refusal) → a ≡ Refused s → n ≡ t .new → k ≡ t .known → r ≡ t .refused + 1 → tallyOf n k r ≡ raised a t
+  refused-raised s q e f g = same-tally e f g ∙ sym (ap (λ (b : AddAnswer). raised b t) q)

@@ -1,0 +1,118 @@
+//! The bench: ratios of one run, of the engine beside its peers in Rust, and how its calls grow.
+//!
+//! Nothing is asserted about time; the peers' words and answers are compared with the engine's.
+
+mod adding;
+mod adds;
+mod asking;
+mod clock;
+mod closure;
+mod growth;
+mod loading;
+mod page;
+mod rows;
+mod ticks;
+mod workloads;
+
+use adding::Adding;
+use asking::Asking;
+use loading::Loading;
+use page::Goal;
+use workloads::Workload;
+
+/// The closure of document 000 over loading a log, on each workload but the last.
+const LOADING: Goal = Goal::AtLeast(10.0);
+/// The same on most of them.
+const LOADING_MOST: Goal = Goal::AtLeast(20.0);
+/// Loading the log of the last workload over one write of its table.
+const LOADING_FEW: Goal = Goal::AtMost(3.0);
+/// A question over one read of the table.
+const ASKING: Goal = Goal::AtMost(1.5);
+/// Writing a log over one read of the table.
+const WRITING: Goal = Goal::AtMost(3.0);
+/// An add less its check over the same rule in Rust.
+const ADDING: Goal = Goal::AtMost(1.0);
+
+fn main() {
+    println!("A time is the shortest lap of turns that last 50 ms or more together, and all peers take turns.");
+    println!("The time of an add is the median over many contacts.");
+    let workloads = workloads::all();
+    let tables = print_loading(&workloads);
+    print_calls(&workloads, tables);
+    growth::print();
+}
+
+/// Prints the ratios of loading, and gives the tables loaded.
+fn print_loading(workloads: &[Workload]) -> Vec<Vec<u32>> {
+    page::head(
+        "Loading a whole log: the peer's time over the engine's",
+        &["closure of 000", "adds in Rust", "ticks in Rust"],
+    );
+    page::goals(&[LOADING]);
+    let mut closures = Vec::new();
+    let mut writes = Vec::new();
+    let mut tables = Vec::new();
+    for (place, workload) in workloads.iter().enumerate() {
+        let (times, table) = Loading::new(workload).run();
+        print_load(workload, &times, place + 1 < workloads.len());
+        closures.push(times.closure / times.engine);
+        writes.push(times.engine / times.write);
+        tables.push(table);
+    }
+    closures.pop();
+    print_most(&closures);
+    print_few(writes.pop().unwrap_or_default());
+    tables
+}
+
+/// Prints the ratios of loading one log, of which the closure's is judged or not.
+fn print_load(workload: &Workload, times: &loading::Times, judged: bool) {
+    let closure = times.closure / times.engine;
+    let cells = [
+        if judged {
+            LOADING.judged(closure)
+        } else {
+            page::number(closure)
+        },
+        page::number(times.adds / times.engine),
+        page::number(times.ticks / times.engine),
+    ];
+    page::line(workload.name, &cells);
+}
+
+/// Prints on how many of the workloads the closure takes very much longer than the engine.
+fn print_most(closures: &[f64]) {
+    let many = closures.iter().filter(|&&ratio| LOADING_MOST.met(ratio));
+    let (many, all) = (many.count(), closures.len());
+    let verdict = page::verdict(2 * many > all);
+    println!("closure of 000 {LOADING_MOST}: on {many} of {all}; goal on most, {verdict}");
+}
+
+/// Prints the ratio of loading a few contacts to one write of their table.
+fn print_few(ratio: f64) {
+    let (number, verdict) = (page::number(ratio), page::verdict(LOADING_FEW.met(ratio)));
+    println!("largest table, the engine's time over one write of its words: {number}; goal {LOADING_FEW}, {verdict}");
+}
+
+/// Prints the ratios of single calls on the tables loaded.
+fn print_calls(workloads: &[Workload], tables: Vec<Vec<u32>>) {
+    page::head(
+        "One call on an open table: over one read of its words; an add less its check: over the same rule in Rust",
+        &["reach", "chain", "write log", "add"],
+    );
+    page::goals(&[ASKING, ASKING, WRITING, ADDING]);
+    for (workload, table) in workloads.iter().zip(tables) {
+        let asked = Asking::new(workload, table).run();
+        let added = &Adding::run(&mut [Adding::new(workload)])[0];
+        let cells = [
+            ASKING.judged(asked.reach / asked.read),
+            ASKING.judged(asked.chain / asked.read),
+            WRITING.judged(asked.write_log / asked.read),
+            ADDING.judged_in_doubt(added.ratio, added.doubt),
+        ];
+        page::line(workload.name, &cells);
+    }
+    println!(
+        "open: beside the check of the table the add was too short to be measured well enough"
+    );
+}

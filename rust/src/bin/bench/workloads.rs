@@ -1,0 +1,60 @@
+//! The logs that the bench loads.
+
+use herd::cases;
+use herd::random::Random;
+use herd::words::{self, Contact, Opening};
+
+/// The seed of every log and question.
+pub const SEED: u64 = 8;
+
+/// A table's numbers and the contacts of its log.
+pub struct Workload {
+    pub name: &'static str,
+    pub opening: Opening,
+    pub contacts: Vec<Contact>,
+}
+
+impl Workload {
+    /// Every legal contact once, shuffled.
+    fn complete(name: &'static str, opening: Opening) -> Workload {
+        let mut contacts = cases::legal_contacts(opening);
+        Random::new(SEED).shuffle(&mut contacts);
+        Workload {
+            name,
+            opening,
+            contacts,
+        }
+    }
+
+    /// So many contacts, each drawn from all legal ones.
+    pub fn drawn(name: &'static str, opening: Opening, number: usize) -> Workload {
+        let mut random = Random::new(SEED);
+        let contacts = (0..number).map(|_| cases::contact(&mut random, opening));
+        Workload {
+            name,
+            opening,
+            contacts: contacts.collect(),
+        }
+    }
+
+    /// The words of the log of its first contacts.
+    pub fn log_of(&self, number: usize) -> Vec<u32> {
+        words::log(self.opening, self.contacts[..number].iter().copied())
+    }
+
+    /// The words of its log.
+    pub fn log(&self) -> Vec<u32> {
+        self.log_of(self.contacts.len())
+    }
+}
+
+/// The five workloads.
+pub fn all() -> Vec<Workload> {
+    vec![
+        Workload::complete("complete, 32 animals", Opening::new(32, 64, 1)),
+        Workload::complete("complete, 100 animals", Opening::new(100, 10, 1)),
+        Workload::drawn("sparse season", Opening::new(128, 512, 4), 6_000),
+        Workload::drawn("dense pen", Opening::new(24, 256, 3), 60_000),
+        Workload::drawn("largest table", Opening::new(256, 1024, 2), 200),
+    ]
+}
