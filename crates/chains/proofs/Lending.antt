@@ -1,4 +1,4 @@
--- What is read off the cell of a pair: where it lies, and the departure of its interval with a given arrival.
+-- The departure of the interval of a cell with a given arrival.
 use mathlib.Core.Path.{_≡_, refl, sym, ap, _∙_, subst}
 use mathlib.Core.Bool.{Bool, true, false, not}
 use mathlib.Core.Option.{Option, none, some}
@@ -19,20 +19,7 @@ use Rattle.rules.proofs.Changes.{stands-outcome}
 use Rattle.rules.proofs.Leads.{Departing, found, missing, departing, same-arrival}
 use Rattle.cells.specs.Stored.{orZero}
 use Rattle.cells.proofs.Checks.{stopped, passed}
-use Rattle.questions.proofs.Pairs.{place, tick-some}
-use Rattle.chains.specs.Found.{Lent}
-
--- Cell (u, v) by the numbers read off the table.
-pub lent-of : (T : List ℕ) → Passes T → (u v : ℕ) → u < animals T → v < animals T → (n s : ℕ) → n ≡ animals T → s ≡ ticks T + 1
-    → Lent T u v (1 + (u * n + v) * s) (1 + (u * n + v) * s + s)
-lent-of T p u v h k n s e f =
-    let q = place T p u v h k n s e f in
-    record { in-order = omega arith; inside = q .inside; words = q .lent; stored = q .stored }
-
--- An interval stands in the lent words where it stands in the cell.
-pub stands-read : (T : List ℕ) (u v : ℕ) (i : Interval) {r : Bool} (lent : List ℕ) → lent ≡ cellAt (animals T) (ticks T) T u v → r ≡ stands i (cellOf lent) → r ≡ stands i (cellsOf T u v)
-unfolding cellsOf
-stands-read T u v i lent e f = f ∙ ap (λ (l : List ℕ). stands i (cellOf l)) e
+use Rattle.pair_cells.proofs.Read.{tick-some}
 
 -- The cells of a table that passes its checks rise.
 pub cell-rises : (T : List ℕ) → Passes T → (u v : ℕ) → u < animals T → v < animals T → Rising (cellsOf T u v)

@@ -31,7 +31,7 @@ use Rattle.verdicts.specs.declared.Verdict.the-variants.{Passed, Refused}
 use Rattle.verdicts.specs.Verdicts.{verdictOf}
 use Rattle.verdicts.proofs.Groups.{verdict-refused, verdict-passed}
 use Rattle.adding.proofs.Ticks.{Tick, tick-below, latest-tick}
-use Rattle.questions.proofs.Pairs.{earliest-from-one, latest-from-one, tick-none, tick-some}
+use Rattle.pair_cells.proofs.Read.{earliest-from-one, latest-from-one, tick-none, tick-some}
 use Rattle.questions.proofs.Answered.{passes-of}
 use Rattle.chains.specs.Found.{wordsOf, collected, roomCheck, chainChecks}
 

@@ -47,10 +47,3 @@ roomCheck T m = ensure (leb (animals T - 1) m) ChainBufferTooShort none
 unfoldable pub chainChecks : List ℕ → ℕ → ℕ → ℕ → ℕ → ℕ → Option Refusal
 chainChecks T u v first last m =
     ensureTable T (ensurePair T u v (ensureWindow T first last (roomCheck T m)))
-
--- The words from `start` to before `stop` are those of cell (u, v), as the functions on a cell ask.
-pub record Lent (T : List ℕ) (u v start stop : ℕ) : Type 0 where
-  pub in-order : start ≤ stop
-  pub inside : stop ≤ length T
-  pub words : take (stop - start) (drop start T) ≡ cellAt (animals T) (ticks T) T u v
-  pub stored : Stored (take (stop - start) (drop start T))

@@ -68,14 +68,14 @@ fn find(table: &[u32], u: u32, v: u32, first: u32, last: u32) -> Steps
     ensures { λ r. ⌜ collected (r .found) (r .count) (r .words) ≡ wordsOf (chainOf (now (table .entry)) u v first last) ⌝ }
     ensures { λ r. ⌜ (r .count < animals (now (table .entry))) × (length (r .words) ≡ 255) ⌝ }
 {
-    let arrival = pairs::first_arrival(table, u, v, first);
+    let arrival = pair_cells::first_arrival(table, u, v, first);
     if arrival == 0 {
         return steps::none();
     }
     if last < arrival {
         return steps::none();
     }
-    let departure = pairs::last_departure(table, u, v, arrival);
+    let departure = pair_cells::last_departure(table, u, v, arrival);
     if departure == 0 {
         return steps::none();
     }

@@ -46,7 +46,7 @@ fn lead(table: &[u32], goal: u32, b: u32, x: u32, d: u32, z: u32) -> Way
     ensures { λ r. ⌜ leadOf (r .on) (r .next) ≡ leads (now (table .entry)) goal b x d z ⌝ }
 {
     let a = d + words::carry_of(table[0]);
-    if !crate::pairs::stands(table, x, z, d, a) {
+    if !pair_cells::stands(table, x, z, d, a) {
         return Way { on: false, next: 0 };
     }
     if z == goal {

@@ -26,7 +26,7 @@ use Rattle.verdicts.specs.declared.Verdict.{Verdict}
 use Rattle.verdicts.specs.declared.Verdict.the-variants.{Passed, Refused}
 use Rattle.verdicts.specs.Verdicts.{verdictOf}
 use Rattle.verdicts.proofs.Groups.{table-group, verdict-refused, verdict-passed}
-use Rattle.questions.proofs.Pairs.{tick-none, tick-some, earliest-from-one, latest-from-one}
+use Rattle.pair_cells.proofs.Read.{tick-none, tick-some, earliest-from-one, latest-from-one}
 
 -- ---- what the checks say
 

@@ -6,44 +6,14 @@ mod walks;
 
 ghost use mathlib.Core.Path.{_≡_};
 ghost use Prim.Native.Nat.{_<_};
-ghost use Rattle.journeys.specs.Cell.{latestDeparture, earliestArrival};
-ghost use Rattle.rules.specs.Layout.{animals, cellsOf};
+ghost use Rattle.rules.specs.Layout.{animals};
 ghost use Rattle.rules.specs.Checks.{Passes};
 ghost use Rattle.rules.specs.Questions.{reaches, reachAnswer, earliestAnswer, latestAnswer, connectedAnswer, reachedAnswer, reachedWords, reachedCount};
-ghost use Rattle.cells.specs.Stored.{orZero};
 use rules::AskAnswer;
 use rules::ReachedAnswer;
 use rules::SetAnswer;
 use rules::TickAnswer;
 use verdicts::Verdict;
-
-// The earliest arrival in cell (u, v) with departure at least `first`, or 0 where there is none.
-fn first_arrival(table: &[u32], u: u32, v: u32, first: u32) -> u32
-    requires { ⌜ Passes (now table) ⌝ }
-    requires { ⌜ (u < animals (now table)) × (v < animals (now table)) ⌝ }
-    ensures { λ r. ⌜ r ≡ orZero (earliestArrival (cellsOf (now (table .entry)) u v) first) ⌝ }
-{
-    let w = table[0];
-    let n = words::animals_of(w) as usize;
-    let size = words::ticks_of(w) as usize + 1;
-    let at = 1 + (u as usize * n + v as usize) * size;
-    let end = at + size;
-    cells::earliest_arrival(&table[at..end], first)
-}
-
-// The latest departure in cell (u, v) with arrival at most `last`, or 0 where there is none.
-fn last_departure(table: &[u32], u: u32, v: u32, last: u32) -> u32
-    requires { ⌜ Passes (now table) ⌝ }
-    requires { ⌜ (u < animals (now table)) × (v < animals (now table)) ⌝ }
-    ensures { λ r. ⌜ r ≡ orZero (latestDeparture (cellsOf (now (table .entry)) u v) last) ⌝ }
-{
-    let w = table[0];
-    let n = words::animals_of(w) as usize;
-    let size = words::ticks_of(w) as usize + 1;
-    let at = 1 + (u as usize * n + v as usize) * size;
-    let end = at + size;
-    cells::latest_departure(&table[at..end], last)
-}
 
 // Whether a stored interval of the pair fits the window, on a table that passed its checks.
 pub fn reaches(table: &[u32], u: u32, v: u32, first: u32, last: u32) -> bool
@@ -51,7 +21,7 @@ pub fn reaches(table: &[u32], u: u32, v: u32, first: u32, last: u32) -> bool
     requires { ⌜ (u < animals (now table)) × (v < animals (now table)) ⌝ }
     ensures { λ r. ⌜ r ≡ reaches (now (table .entry)) u v first last ⌝ }
 {
-    let soonest = first_arrival(table, u, v, first);
+    let soonest = pair_cells::first_arrival(table, u, v, first);
     if soonest == 0 {
         return false;
     }
@@ -94,7 +64,7 @@ pub fn earliest(table: &[u32], u: u32, v: u32, first: u32) -> TickAnswer
     match verdict {
         Verdict::Refused(r) => TickAnswer::Refused(r),
         Verdict::Passed => {
-            let arrival = first_arrival(table, u, v, first);
+            let arrival = pair_cells::first_arrival(table, u, v, first);
             if arrival == 0 {
                 return TickAnswer::Nothing;
             }
@@ -111,7 +81,7 @@ pub fn latest(table: &[u32], u: u32, v: u32, last: u32) -> TickAnswer
     match verdict {
         Verdict::Refused(r) => TickAnswer::Refused(r),
         Verdict::Passed => {
-            let departure = last_departure(table, u, v, last);
+            let departure = pair_cells::last_departure(table, u, v, last);
             if departure == 0 {
                 return TickAnswer::Nothing;
             }

@@ -4,7 +4,7 @@ use Prim.Native.Nat.{ℕ, _+_}
 use native.Mathlib.Omega.{arith}
 use borrow.Author.Needs.{needs}
 use Rattle.rules.proofs.Sound.{opens-length}
-use Rattle.questions.proofs.Pairs.{Place, place}
+use Rattle.pair_cells.proofs.Read.{Place, place}
 use Rattle.claims.proofs.Words.{holds-read}
 use Rattle.claims.proofs.held.holds.Statement.{statement}
 use Rattle.claims.proofs.held.holds.Tie as tie

@@ -1,8 +1,8 @@
--- `pairs::first_arrival` meets its contract: the cell read is the one from u to v. Assumes nothing.
+-- `first_arrival` meets its contract: the cell read is the one from u to v. Assumes nothing.
 use borrow.Author.Needs.{needs}
-use Rattle.questions.proofs.Pairs.{arrival-read}
-use Rattle.chains.proofs.pairs.first_arrival.Statement.{statement}
-use Rattle.chains.proofs.pairs.first_arrival.Tie as tie
+use Rattle.pair_cells.proofs.Read.{arrival-read}
+use Rattle.pair_cells.proofs.first_arrival.Statement.{statement}
+use Rattle.pair_cells.proofs.first_arrival.Tie as tie
 
 span-of-requires : tie.Need-span-of-requires
 span-of-requires c κs = search needs

@@ -1,8 +1,8 @@
--- `pairs::last_departure` meets its contract: the cell read is the one from u to v. Assumes nothing.
+-- `last_departure` meets its contract: the cell read is the one from u to v. Assumes nothing.
 use borrow.Author.Needs.{needs}
-use Rattle.questions.proofs.Pairs.{departure-read}
-use Rattle.chains.proofs.pairs.last_departure.Statement.{statement}
-use Rattle.chains.proofs.pairs.last_departure.Tie as tie
+use Rattle.pair_cells.proofs.Read.{departure-read}
+use Rattle.pair_cells.proofs.last_departure.Statement.{statement}
+use Rattle.pair_cells.proofs.last_departure.Tie as tie
 
 span-of-requires : tie.Need-span-of-requires
 span-of-requires c κs = search needs

@@ -1,9 +1,9 @@
--- `pairs::stands` meets its contract: the cell read is the one from u to v. Assumes nothing.
+-- `stands` meets its contract: the cell read is the one from u to v. Assumes nothing.
 use borrow.Author.Needs.{needs}
 use Rattle.journeys.specs.Journey.{interval}
-use Rattle.chains.proofs.Lending.{stands-read}
-use Rattle.chains.proofs.pairs.stands.Statement.{statement}
-use Rattle.chains.proofs.pairs.stands.Tie as tie
+use Rattle.pair_cells.proofs.Read.{stands-read}
+use Rattle.pair_cells.proofs.stands.Statement.{statement}
+use Rattle.pair_cells.proofs.stands.Tie as tie
 
 span-of-requires : tie.Need-span-of-requires
 span-of-requires c κs = search needs

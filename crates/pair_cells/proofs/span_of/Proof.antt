@@ -1,13 +1,13 @@
--- `pairs::span_of` meets its contract: the words are those of the cell from u to v. Assumes nothing.
+-- `span_of` meets its contract: the words are those of the cell from u to v. Assumes nothing.
 use mathlib.Core.Path.{ap}
 use Prim.Native.Nat.{ℕ, _+_}
 use native.Mathlib.Omega.{arith}
 use borrow.Author.Needs.{needs}
 use Rattle.rules.proofs.Sound.{opens-length}
-use Rattle.questions.proofs.Pairs.{Place, place}
-use Rattle.chains.proofs.Lending.{lent-of}
-use Rattle.chains.proofs.pairs.span_of.Statement.{statement}
-use Rattle.chains.proofs.pairs.span_of.Tie as tie
+use Rattle.pair_cells.proofs.Read.{Place, place}
+use Rattle.pair_cells.proofs.Read.{lent-of}
+use Rattle.pair_cells.proofs.span_of.Statement.{statement}
+use Rattle.pair_cells.proofs.span_of.Tie as tie
 
 -- Where the cell lies.
 here : (c : tie.After-ticks-of) → let a = c .before .before .before .before .args in Place (a .table .now) (a .u) (a .v) (c .before .animals-of .result) (c .ticks-of .result + 1)
