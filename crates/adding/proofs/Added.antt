@@ -12,9 +12,10 @@ use lib.Dec.{eqb}
 use Rattle.journeys.specs.Journey.{Contact, Interval, interval}
 use Rattle.journeys.specs.Cell.{Cell, Limits, latestDeparture, earliestArrival}
 use Rattle.journeys.specs.Adding.{departureOf, arrivalOf, enterBoth, add}
+use Rattle.rules.specs.Limits.{maxTicks, maxCarry, maxArrival}
 use Rattle.rules.specs.Folds.{flat, sumBelow}
 use Rattle.rules.specs.Layout.{cellWords, tableWords, animals, ticks, carry, cellAt, cellOf, cellsOf}
-use Rattle.rules.specs.Checks.{Passes}
+use Rattle.rules.specs.Checks.{ValidTable}
 use Rattle.rules.specs.Adding.{Legal, stands, sameCell, cellsChanged, addRefusal, addedCells, holds, addLeaves}
 use Rattle.rules.proofs.Folds.{flat-length, flat-same, sum-same, count-same}
 use Rattle.rules.proofs.Decode.{cell-length}
@@ -32,7 +33,7 @@ use Rattle.adding.proofs.Turns.{moves-both}
 
 -- ---- a table that passes its checks
 
-module _ (T : List ℕ) (p : Passes T) where
+module _ (T : List ℕ) (p : ValidTable T) where
   abbrev n : ℕ
   n = animals T
 
@@ -83,7 +84,7 @@ module _ (T : List ℕ) (p : Passes T) where
 
 module _ (T : List ℕ) (k : Contact) (ok : addRefusal T k ≡ none) where
   -- The table passes its checks.
-  passes : Passes T
+  passes : ValidTable T
   passes = add-iff T k .0 ok .0
 
   -- The contact is legal.
@@ -126,13 +127,13 @@ module _ (T : List ℕ) (k : Contact) (ok : addRefusal T k ≡ none) where
       (latest-tick s (k .tick) (cellsOf T x (k .from)) (λ i q. let l = limits T passes x (k .from) h (legal .from-below) i q in omega (arith, l .departs, l .in-time)))
 
   -- The arrivals lie within their limits.
-  arrival-tick : (y : ℕ) → y < m → Tick 2048 (arrivalOf (carry T) (cellsOf T) k y)
+  arrival-tick : (y : ℕ) → y < m → Tick (maxArrival + 1) (arrivalOf (carry T) (cellsOf T) k y)
   unfolding arrivalOf
   arrival-tick y h =
       let z = table-sizes T in
-      tick-cond 2048 (eqb y (k .to)) (some a) (earliestArrival (cellsOf T (k .to) y) a)
+      tick-cond (maxArrival + 1) (eqb y (k .to)) (some a) (earliestArrival (cellsOf T (k .to) y) a)
       (omega (arith, legal .from-one, legal .to-last, z .τ-high, z .δ-high))
-      (earliest-tick 2048 a (cellsOf T (k .to) y)
+      (earliest-tick (maxArrival + 1) a (cellsOf T (k .to) y)
       (λ i q. let l = limits T passes (k .to) y (legal .to-below) h i q in omega (arith, l .departs, l .carried, l .arrives, z .τ-high, z .δ-high)))
 
   module _ (d e : List ℕ) (hd : Listed m (departing m s body (k .from) (k .tick)) d) (he : Listed m (arriving m s body (k .to) a) e) where
@@ -141,8 +142,8 @@ module _ (T : List ℕ) (k : Contact) (ok : addRefusal T k ≡ none) where
     departures-below x h = rw (hd x h, departure-is x) (tick-below s (departureOf (cellsOf T) k x) (omega arith) (departure-tick x h))
 
     -- The arrivals have their 11 bits.
-    pub arrivals-below : Below m 2048 e
-    arrivals-below y h = rw (he y h, arrival-is y) (tick-below 2048 (arrivalOf (carry T) (cellsOf T) k y) (omega arith) (arrival-tick y h))
+    pub arrivals-below : Below m (maxArrival + 1) e
+    arrivals-below y h = rw (he y h, arrival-is y) (tick-below (maxArrival + 1) (arrivalOf (carry T) (cellsOf T) k y) (omega arith) (arrival-tick y h))
 
     -- A departure is read from the array as the rule has it.
     departure-read : (x : ℕ) → x < m → tickOf (getD d x 0) ≡ departureOf (cellsOf T) k x
@@ -150,7 +151,7 @@ module _ (T : List ℕ) (k : Contact) (ok : addRefusal T k ≡ none) where
 
     -- An arrival is read from the array as the rule has it.
     arrival-read : (y : ℕ) → y < m → tickOf (getD e y 0) ≡ arrivalOf (carry T) (cellsOf T) k y
-    arrival-read y h = ap tickOf (he y h ∙ arrival-is y) ∙ tick-again 2048 (arrivalOf (carry T) (cellsOf T) k y) (arrival-tick y h)
+    arrival-read y h = ap tickOf (he y h ∙ arrival-is y) ∙ tick-again (maxArrival + 1) (arrivalOf (carry T) (cellsOf T) k y) (arrival-tick y h)
 
     -- A cell of a row is that of the table.
     cell-at : (x y : ℕ) → y < m → part s y (part (m * s) x body) ≡ cellAt m (ticks T) T x y
@@ -240,8 +241,8 @@ pub record Accepted (T : List ℕ) (k : Contact) : Type 0 where
   pub long : 1 ≤ length T
   pub from-below : k .from < animals T
   pub to-below : k .to < animals T
-  pub tick-small : k .tick ≤ 1024
-  pub carry-small : carry T ≤ 256
+  pub tick-small : k .tick ≤ maxTicks
+  pub carry-small : carry T ≤ maxCarry
 
 -- It follows from the checks.
 pub accepted : (T : List ℕ) (k : Contact) → addRefusal T k ≡ none → Accepted T k
@@ -283,9 +284,9 @@ module _ (T : List ℕ) (k : Contact) (ok : addRefusal T k ≡ none) {n s a : �
 
   module _ (d e : List ℕ) where
     -- The ticks read lie within their limits.
-    pub read-below : Listed n (departing n s lent (k .from) (k .tick)) d → Listed n (arriving n s lent (k .to) a) e → Below n s d × Below n 2048 e
+    pub read-below : Listed n (departing n s lent (k .from) (k .tick)) d → Listed n (arriving n s lent (k .to) a) e → Below n s d × Below n (maxArrival + 1) e
     read-below =
-        as-read (λ n s a l. Listed n (departing n s l (k .from) (k .tick)) d → Listed n (arriving n s l (k .to) a) e → Below n s d × Below n 2048 e)
+        as-read (λ n s a l. Listed n (departing n s l (k .from) (k .tick)) d → Listed n (arriving n s l (k .to) a) e → Below n s d × Below n (maxArrival + 1) e)
         (λ hd he. (departures-below T k ok d e hd he, arrivals-below T k ok d e hd he))
 
     -- The cells counted are those that the rule changes.

@@ -7,6 +7,7 @@ use native.Mathlib.Omega.{arith}
 use lib.ListN.{length, getD, take, drop, set, length-drop}
 use lib.Seq.{take-take, take-nil, drop-drop, length-take-le, getD-set-same, getD-set-other}
 use borrow.Author.Count.{below-more}
+use Rattle.rules.specs.Limits.{maxAnimals, maxCells}
 use Rattle.rules.proofs.Folds.{place-of}
 use Rattle.parts.specs.Parts.{part}
 use Rattle.parts.proofs.Walk.{part-inside}
@@ -15,8 +16,8 @@ use Rattle.adding.specs.Steps.{cellIn, Body, Row, Listed}
 
 -- Cell (x, y) begins and ends inside the words, and is lent as it stands.
 pub record Place (n s : ℕ) (body : List ℕ) (x y : ℕ) : Type 0 where
-  pub row : x * n ≤ 65536
-  pub column : y < 256
+  pub row : x * n ≤ maxCells
+  pub column : y < maxAnimals
   pub inside : (x * n + y) * s + s ≤ length body
   pub lent : take ((x * n + y) * s + s - (x * n + y) * s) (drop ((x * n + y) * s) body) ≡ cellIn n s body x y
   pub stored : Stored (take ((x * n + y) * s + s - (x * n + y) * s) (drop ((x * n + y) * s) body))
@@ -29,7 +30,7 @@ place n s body x y b h k =
     let e : take ((x * n + y) * s + s - (x * n + y) * s) (drop ((x * n + y) * s) body) ≡ take s (drop ((x * n + y) * s) body) =
     ap (λ (i : ℕ). take i (drop ((x * n + y) * s) body)) r in
     let w : x * n + n ≤ n * n = part-inside x n n h in
-    let z : x ≤ 256 = omega (arith, b .few) in
+    let z : x ≤ maxAnimals = omega (arith, b .few) in
     record {
       row = mul-le-mul z (b .few);
       column = omega (arith, b .few);

@@ -12,6 +12,7 @@ use borrow.Author.Tests.{eq-eqb, ne-eqb}
 use Rattle.journeys.specs.Journey.{interval}
 use Rattle.journeys.specs.Cell.{Cell, hasInside, enter}
 use Rattle.journeys.specs.Adding.{enterBoth}
+use Rattle.rules.specs.Limits.{maxAnimals, maxCells}
 use Rattle.rules.specs.Folds.{sumBelow, countBelow}
 use Rattle.rules.specs.Layout.{cellWords, cellOf}
 use Rattle.rules.specs.Adding.{sameCell}
@@ -90,8 +91,8 @@ count-most p (suc n) = go (p n) (count-most p n)
     go true h = omega arith
     go false h = omega arith
 
--- A sum of n numbers of at most 256.
-sum-most : (f : ℕ → ℕ) (n : ℕ) → ((k : ℕ) → f k ≤ 256) → sumBelow f n ≤ n * 256
+-- A sum of n numbers, each at most that of the animals.
+sum-most : (f : ℕ → ℕ) (n : ℕ) → ((k : ℕ) → f k ≤ maxAnimals) → sumBelow f n ≤ n * maxAnimals
 unfolding sumBelow
 sum-most f zero h = omega arith
 sum-most f (suc n) h = omega (arith, sum-most f n h, h n)
@@ -129,13 +130,13 @@ count-small p n m r x y d a xs e f = go (moves x y d a xs) f
     go false f = omega (arith, count-most p n)
 
 -- A row counts no more than its n cells.
-row-small : (n s : ℕ) (d e body : List ℕ) → n ≤ 256 → (x : ℕ) → rowMoves n s d e body x ≤ 256
+row-small : (n s : ℕ) (d e body : List ℕ) → n ≤ maxAnimals → (x : ℕ) → rowMoves n s d e body x ≤ maxAnimals
 unfolding rowMoves
 row-small n s d e body h x = omega (arith, count-most (movesAt s x (getD d x 0) e (part (n * s) x body)) n)
 
 -- The counts of the rows passed, with one row more.
-pub sum-small : (n s : ℕ) (d e body : List ℕ) (x m r : ℕ) (lent : List ℕ) → n ≤ 256 → x ≤ n → m ≡ sumBelow (rowMoves n s d e body) x
-    → r ≡ countBelow (movesAt s x (getD d x 0) e lent) n → m + r ≤ 65792
+pub sum-small : (n s : ℕ) (d e body : List ℕ) (x m r : ℕ) (lent : List ℕ) → n ≤ maxAnimals → x ≤ n → m ≡ sumBelow (rowMoves n s d e body) x
+    → r ≡ countBelow (movesAt s x (getD d x 0) e lent) n → m + r ≤ maxCells + maxAnimals
 sum-small n s d e body x m r lent h k q f =
     omega (arith, sum-most (rowMoves n s d e body) x (row-small n s d e body h), count-most (movesAt s x (getD d x 0) e lent) n)
 

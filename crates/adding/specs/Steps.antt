@@ -9,6 +9,7 @@ use lib.Dec.{eqb}
 use Rattle.journeys.specs.Journey.{interval}
 use Rattle.journeys.specs.Cell.{Cell, latestDeparture, earliestArrival, hasInside}
 use Rattle.journeys.specs.Adding.{enterBoth}
+use Rattle.rules.specs.Limits.{maxAnimals, maxCellWords}
 use Rattle.rules.specs.Folds.{countBelow}
 use Rattle.rules.specs.Layout.{cellWords, cellOf}
 use Rattle.parts.specs.Parts.{part, parts}
@@ -22,14 +23,14 @@ cellIn n s body x y = take s (drop ((x * n + y) * s) body)
 
 -- n rows of n cells of s words, each as the functions on a cell ask.
 pub record Body (n s : ℕ) (body : List ℕ) : Type 0 where
-  pub few : n ≤ 256
+  pub few : n ≤ maxAnimals
   pub long : length body ≡ n * n * s
-  pub short : s ≤ 1025
+  pub short : s ≤ maxCellWords
   pub cells : (x y : ℕ) → x < n → y < n → Stored (cellIn n s body x y)
 
 -- n cells of s words, each as the functions on a cell ask.
 pub record Row (n s : ℕ) (row : List ℕ) : Type 0 where
-  pub few : n ≤ 256
+  pub few : n ≤ maxAnimals
   pub long : length row ≡ n * s
   pub cells : (y : ℕ) → y < n → Stored (part s y row)
 

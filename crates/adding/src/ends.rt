@@ -2,6 +2,7 @@
 ghost use mathlib.Core.Path.{_≡_};
 ghost use Prim.Native.Nat.{_<_};
 ghost use Rattle.adding.specs.Steps.{Body, departing, arriving, Listed};
+use tables::Opening;
 
 // The departure of x: t for u itself, for another the latest in cell (x, u) with arrival at most t, 0 for none.
 fn departure(body: &[u32], n: usize, size: usize, x: usize, u: usize, t: u32) -> u32
@@ -18,12 +19,18 @@ fn departure(body: &[u32], n: usize, size: usize, x: usize, u: usize, t: u32) ->
 }
 
 // The departures of the n animals.
-pub(crate) fn departures(body: &[u32], n: usize, size: usize, u: usize, t: u32) -> [u32; 256]
+pub(crate) fn departures(
+    body: &[u32],
+    n: usize,
+    size: usize,
+    u: usize,
+    t: u32,
+) -> [u32; Opening::MAX_ANIMALS as usize]
     requires { ⌜ Body n size (now body) ⌝ }
     requires { ⌜ u < n ⌝ }
     ensures { λ r. ⌜ Listed n (departing n size (now (body .entry)) u t) r ⌝ }
 {
-    let mut d = [0u32; 256];
+    let mut d = [0u32; Opening::MAX_ANIMALS as usize];
     for x in 0..n {
         d[x] = departure(body, n, size, x, u, t);
     }
@@ -45,12 +52,18 @@ fn arrival(body: &[u32], n: usize, size: usize, v: usize, y: usize, a: u32) -> u
 }
 
 // The arrivals at the n animals.
-pub(crate) fn arrivals(body: &[u32], n: usize, size: usize, v: usize, a: u32) -> [u32; 256]
+pub(crate) fn arrivals(
+    body: &[u32],
+    n: usize,
+    size: usize,
+    v: usize,
+    a: u32,
+) -> [u32; Opening::MAX_ANIMALS as usize]
     requires { ⌜ Body n size (now body) ⌝ }
     requires { ⌜ v < n ⌝ }
     ensures { λ r. ⌜ Listed n (arriving n size (now (body .entry)) v a) r ⌝ }
 {
-    let mut e = [0u32; 256];
+    let mut e = [0u32; Opening::MAX_ANIMALS as usize];
     for y in 0..n {
         e[y] = arrival(body, n, size, v, y, a);
     }

@@ -25,7 +25,7 @@ fn is_known(body: &[u32], n: usize, size: usize, u: usize, v: usize, t: u32, a: 
 {
     let at = (u * n + v) * size;
     let end = at + size;
-    cells::holds(&body[at..end], t, a)
+    cells::stands(&body[at..end], t, a)
 }
 
 // Adds the contact (u, v, t), which no check refuses.

@@ -1,17 +1,19 @@
 // Every pair's interval enters its cell.
 ghost use mathlib.Core.Path.{_≡_};
 ghost use mathlib.Core.Bool.{cond};
-ghost use Prim.Native.Nat.{_≤_, _<_, _*_};
+ghost use Prim.Native.Nat.{_+_, _*_, _≤_, _<_};
 ghost use lib.ListN.{length};
+ghost use Rattle.rules.specs.Limits.{maxArrival};
 ghost use Rattle.rules.specs.Folds.{sumBelow, countBelow};
 ghost use Rattle.parts.specs.Parts.{parts};
 ghost use Rattle.cells.specs.Stored.{Stored};
 ghost use Rattle.adding.specs.Steps.{Body, Row, Below, stepCell, stepAt, stepRow, moves, movesAt, rowMoves};
+use tables::Opening;
 
 // [d, a] enters cell (x, y), where x is not y and there is an arrival a: 1 where the cell changed, else 0.
 fn enter_cell(cell: &mut [u32], x: usize, y: usize, d: u32, a: u32) -> u32
     requires { ⌜ Stored (now cell) ⌝ }
-    requires { ⌜ (1 ≤ d) × (d < length (now cell)) × (a < 2048) ⌝ }
+    requires { ⌜ (1 ≤ d) × (d < length (now cell)) × (a ≤ maxArrival) ⌝ }
     ensures { λ r. ⌜ r ≡ cond (moves x y d a (now (cell .entry))) 1 0 ⌝ }
     ensures { λ _. ⌜ now (cell .exit) ≡ stepCell x y d a (now (cell .entry)) ⌝ }
 {
@@ -28,9 +30,16 @@ fn enter_cell(cell: &mut [u32], x: usize, y: usize, d: u32, a: u32) -> u32
 }
 
 // Where there is a departure d of x, [d, e(y)] enters each cell (x, y) of the row of x; how many cells changed.
-fn enter_row(row: &mut [u32], n: usize, size: usize, x: usize, d: u32, e: &[u32; 256]) -> u32
+fn enter_row(
+    row: &mut [u32],
+    n: usize,
+    size: usize,
+    x: usize,
+    d: u32,
+    e: &[u32; Opening::MAX_ANIMALS as usize],
+) -> u32
     requires { ⌜ Row n size (now row) ⌝ }
-    requires { ⌜ (d < size) × Below n 2048 (now e) ⌝ }
+    requires { ⌜ (d < size) × Below n (maxArrival + 1) (now e) ⌝ }
     ensures { λ r. ⌜ r ≡ countBelow (movesAt size x d (now (e .entry)) (now (row .entry))) n ⌝ }
     ensures { λ _. ⌜ now (row .exit) ≡ parts (stepAt x d (now (e .entry))) size n (now (row .entry)) ⌝ }
 {
@@ -52,11 +61,11 @@ pub(crate) fn enter_rows(
     body: &mut [u32],
     n: usize,
     size: usize,
-    d: &[u32; 256],
-    e: &[u32; 256],
+    d: &[u32; Opening::MAX_ANIMALS as usize],
+    e: &[u32; Opening::MAX_ANIMALS as usize],
 ) -> u32
     requires { ⌜ Body n size (now body) ⌝ }
-    requires { ⌜ Below n size (now d) × Below n 2048 (now e) ⌝ }
+    requires { ⌜ Below n size (now d) × Below n (maxArrival + 1) (now e) ⌝ }
     ensures { λ r. ⌜ r ≡ sumBelow (rowMoves n size (now (d .entry)) (now (e .entry)) (now (body .entry))) n ⌝ }
     ensures { λ _. ⌜ now (body .exit) ≡ parts (stepRow n size (now (d .entry)) (now (e .entry))) (n * size) n (now (body .entry)) ⌝ }
 {

@@ -10,6 +10,8 @@ use lib.ListN.{length, take, drop}
 use lib.Seq.{drop-drop}
 use lib.Dec.{leb, ltb, eqb}
 use borrow.Author.Tests.{lt-ltb, le-ltb}
+use Rattle.rules.specs.Limits.{maxArrival}
+use Rattle.rules.specs.Checks.{WellFormedBelow}
 use Rattle.journeys.specs.Journey.{Contact, contact, Interval, interval}
 use Rattle.journeys.specs.Cell.{Cell, WellFormedCell, latestDeparture}
 use Rattle.journeys.specs.Adding.{Cells, add, departureOf}
@@ -17,7 +19,6 @@ use Rattle.journeys.proofs.Closed.{add-diagonal}
 use Rattle.journeys.proofs.Rows.{rows-suffice}
 use Rattle.journeys.proofs.Tests.{Outcome, holds, fails, eq-outcome}
 use Rattle.rules.specs.Layout.{cellOf}
-use Rattle.rules.proofs.Decode.{Good}
 use Rattle.rules.proofs.Fresh.{add-good}
 use Rattle.cells.specs.Stored.{orZero}
 use Rattle.parts.specs.Parts.{part, put}
@@ -123,7 +124,7 @@ module _ {n s δ : ℕ} {u v t x : ℕ} {body : List ℕ} {T : Cells} {L : ℕ �
       let o = rows-suffice (s - 1) δ (joined δ T k x a b) (formed a b ha hb) in
       omega (arith, marks-length L (a * n + b) (length (joined δ T k x a b)) (s - 1 - length (joined δ T k x a b)))
 
-  bounds : (a b : ℕ) → a < n → b < n → (i : Interval) → List·Memᴰ i (joined δ T k x a b) → (1 ≤ i .departure) × (i .departure ≤ s - 1) × (i .arrival < 2048)
+  bounds : (a b : ℕ) → a < n → b < n → (i : Interval) → List·Memᴰ i (joined δ T k x a b) → (1 ≤ i .departure) × (i .departure ≤ s - 1) × (i .arrival ≤ maxArrival)
   bounds a b ha hb i q =
       let o = formed a b ha hb .limits i q in
       let z = r .sizes in

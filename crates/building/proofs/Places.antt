@@ -11,6 +11,7 @@ use lib.Seq.{length-take-le, take-at, drop-at, take-append-le, drop-append-le, t
 use Rattle.parts.specs.Parts.{part, put}
 use Rattle.adding.specs.Steps.{cellIn}
 use Rattle.parts.proofs.Walk.{part-inside, next-part}
+use Rattle.rules.specs.Limits.{maxAnimals, maxCells}
 
 -- Of two different numbers one is below.
 pub apart : (j k : ℕ) → j ≢ k → (j < k) ⊎ (k < j)
@@ -117,17 +118,17 @@ number-below n x y h k = let r = part-inside x n n h in omega arith
 
 -- Cell (x, y) begins and ends inside the words, and is lent as it stands.
 pub record Lies (n s : ℕ) (body : List ℕ) (x y : ℕ) : Type 0 where
-  pub row : x * n ≤ 65536
-  pub column : y < 256
+  pub row : x * n ≤ maxCells
+  pub column : y < maxAnimals
   pub inside : (x * n + y) * s + s ≤ length body
   pub lent : take ((x * n + y) * s + s - (x * n + y) * s) (drop ((x * n + y) * s) body) ≡ cellIn n s body x y
 
 -- The place of every cell of animals below n.
-pub lies : (n s : ℕ) (body : List ℕ) (x y : ℕ) → n ≤ 256 → length body ≡ n * n * s → x < n → y < n → Lies n s body x y
+pub lies : (n s : ℕ) (body : List ℕ) (x y : ℕ) → n ≤ maxAnimals → length body ≡ n * n * s → x < n → y < n → Lies n s body x y
 unfolding cellIn
 lies n s body x y few long h k =
     let r : (x * n + y) * s + s - (x * n + y) * s ≡ s = omega arith in
-    let z : x ≤ 256 = omega arith in
+    let z : x ≤ maxAnimals = omega arith in
     record {
       row = mul-le-mul z few;
       column = omega arith;

@@ -14,9 +14,10 @@ use Rattle.journeys.specs.Cell.{Cell, Rising, latestDeparture}
 use Rattle.words.specs.Layout.{get}
 use Rattle.words.specs.Words.{rowsField, departureField, arrivalField, intervalWord, intervalOf}
 use Rattle.words.proofs.Packed.{intervalOf-word, rowsOf-word}
+use Rattle.rules.specs.Limits.{maxTicks, maxArrival}
 use Rattle.rules.specs.Layout.{cellOf}
 use Rattle.rules.proofs.Folds.{map-back}
-use Rattle.cells.specs.Stored.{departureOf, arrivalOf, frontBelow, orZero}
+use Rattle.cells.specs.Stored.{departureEnd, arrivalEnd, frontBelow, orZero}
 use Rattle.cells.proofs.Search.{front-length, latest-none, latest-some}
 use Rattle.cells.proofs.Lent.{lent-is, row-is}
 use Rattle.building.specs.Last.{withRows, InUse}
@@ -34,17 +35,17 @@ module _ (c : Cell) (rest : List ℕ) where
   unfolding withRows
   rows-rest = rw (add-one (length c)) (drop-at (map intervalWord c) rest (length c) (length-map c intervalWord))
 
-  -- The words of at most 1024 intervals with ends of 11 bits say these intervals.
-  pub rows-again : length c ≤ 1024 → ((i : Interval) → List·Memᴰ i c → (i .departure < 2048) × (i .arrival < 2048)) → cellOf (withRows c rest) ≡ c
+  -- The words of no more intervals than a cell has rows, none arriving past the last arrival, say these intervals.
+  pub rows-again : length c ≤ maxTicks → ((i : Interval) → List·Memᴰ i c → (i .departure ≤ maxArrival) × (i .arrival ≤ maxArrival)) → cellOf (withRows c rest) ≡ c
   unfolding cellOf withRows
   rows-again l f =
       ap (λ (k : ℕ). map intervalOf (take k (map intervalWord c ++ rest))) (rowsOf-word (length c) (omega arith))
       ∙ ap (map intervalOf) (take-at (map intervalWord c) rest (length c) (length-map c intervalWord))
-      ∙ map-back intervalWord intervalOf c (λ i m. intervalOf-word i (f i m .0) (f i m .1))
+      ∙ map-back intervalWord intervalOf c (λ i m. intervalOf-word i (omega (arith, f i m .0)) (omega (arith, f i m .1)))
 
   -- The words of a rising cell with such ends, and departures from 1 to the number of rows, are in use.
-  pub rows-in-use : length c + length rest ≤ 1024 → Rising c
-      → ((i : Interval) → List·Memᴰ i c → (1 ≤ i .departure) × (i .departure ≤ length c + length rest) × (i .arrival < 2048)) → InUse (withRows c rest)
+  pub rows-in-use : length c + length rest ≤ maxTicks → Rising c
+      → ((i : Interval) → List·Memᴰ i c → (1 ≤ i .departure) × (i .departure ≤ length c + length rest) × (i .arrival ≤ maxArrival)) → InUse (withRows c rest)
   rows-in-use l u f =
       record {
         words = rw again (ap (withRows c) (sym rows-rest));
@@ -59,7 +60,7 @@ module _ (c : Cell) (rest : List ℕ) where
       again : cellOf (withRows c rest) ≡ c
       again = rows-again (omega arith) (λ i m. omega (arith, f i m))
 
-      each : (i : Interval) → List·Memᴰ i (cellOf (withRows c rest)) → (1 ≤ i .departure) × (i .departure ≤ length c + length rest) × (i .arrival < 2048)
+      each : (i : Interval) → List·Memᴰ i (cellOf (withRows c rest)) → (1 ≤ i .departure) × (i .departure ≤ length c + length rest) × (i .arrival ≤ maxArrival)
       each i m = f i (subst (λ (d : Cell). List·Memᴰ i d) again m)
 
 -- The count word says how many rows are in use.
@@ -81,16 +82,16 @@ lent-rising xs e s h = rw (lent-cell xs e s h) (s .rising)
 pub record Found (t : ℕ) (xs : List ℕ) (e r : ℕ) : Type 0 where
   pub in-use : InUse xs
   pub lent : e ≡ get rowsField (getD xs 0 0) + 1
-  pub place : r ≡ frontBelow arrivalOf (t + 1) (map intervalOf (take (e - 1) (drop 1 xs)))
+  pub place : r ≡ frontBelow arrivalEnd (t + 1) (map intervalOf (take (e - 1) (drop 1 xs)))
 
 module _ {t : ℕ} {xs : List ℕ} {e r : ℕ} (g : Found t xs e r) where
   -- The number found is that of the cell.
-  found-is : r ≡ frontBelow arrivalOf (t + 1) (cellOf xs)
-  found-is = g .place ∙ ap (frontBelow arrivalOf (t + 1)) (lent-cell xs e (g .in-use) (g .lent))
+  found-is : r ≡ frontBelow arrivalEnd (t + 1) (cellOf xs)
+  found-is = g .place ∙ ap (frontBelow arrivalEnd (t + 1)) (lent-cell xs e (g .in-use) (g .lent))
 
   -- It stands within the cell.
   pub found-below : r < length xs
-  found-below = omega (arith, found-is, front-length arrivalOf (t + 1) (cellOf xs), g .in-use .fits)
+  found-below = omega (arith, found-is, front-length arrivalEnd (t + 1) (cellOf xs), g .in-use .fits)
 
   -- There is no departure where no row arrives by t.
   pub latest-zero : r ≡ 0 → 0 ≡ orZero (latestDeparture (cellOf xs) t)
@@ -100,12 +101,12 @@ module _ {t : ℕ} {xs : List ℕ} {e r : ℕ} (g : Found t xs e r) where
   pub latest-word : r ≢ 0 → get departureField (getD xs r 0) ≡ orZero (latestDeparture (cellOf xs) t)
   latest-word n = go r found-is n
     where
-      go : (r : ℕ) → r ≡ frontBelow arrivalOf (t + 1) (cellOf xs) → r ≢ 0 → get departureField (getD xs r 0) ≡ orZero (latestDeparture (cellOf xs) t)
+      go : (r : ℕ) → r ≡ frontBelow arrivalEnd (t + 1) (cellOf xs) → r ≢ 0 → get departureField (getD xs r 0) ≡ orZero (latestDeparture (cellOf xs) t)
       go zero q n = absurd (n refl)
       go (suc k) q n =
           sym
           (ap orZero (latest-some t (cellOf xs) k (intervalOf 0) (g .in-use .rising) (sym q))
-          ∙ ap departureOf (row-is xs k (omega (arith, front-length arrivalOf (t + 1) (cellOf xs))))
+          ∙ ap departureEnd (row-is xs k (omega (arith, front-length arrivalEnd (t + 1) (cellOf xs))))
           ∙ ap (λ (i : ℕ). get departureField (getD xs i 0)) (add-one k))
 
 -- ---- the last row
@@ -113,15 +114,15 @@ module _ {t : ℕ} {xs : List ℕ} {e r : ℕ} (g : Found t xs e r) where
 -- No interval of a rising cell arrives after the last.
 last-latest : (c : Cell) (z : Interval) (k : ℕ) → Rising c → length c ≡ k + 1 → (i : Interval) → List·Memᴰ i c → i .arrival ≤ getD c k z .arrival
 last-latest [] z k u e i m = absurd (List·Memᴰ·not-nil m)
-last-latest (j ∷ []) z zero u e i m = ⊎-elim (λ q. le-of-eq (ap arrivalOf q)) (λ q. absurd (List·Memᴰ·not-nil q)) (List·Memᴰ·cases-cons m)
+last-latest (j ∷ []) z zero u e i m = ⊎-elim (λ q. le-of-eq (ap arrivalEnd q)) (λ q. absurd (List·Memᴰ·not-nil q)) (List·Memᴰ·cases-cons m)
 last-latest (j ∷ []) z (suc k) u e i m = absurd (omega arith)
 last-latest (j ∷ l ∷ c) z zero u e i m = absurd (omega arith)
 last-latest (j ∷ l ∷ c) z (suc k) u e i m =
-    ⊎-elim (λ q. let a = last-latest (l ∷ c) z k (u .1) (omega arith) l (List·Memᴰ·head refl) in let b = ap arrivalOf q in let d = u .0 .1 in omega arith)
+    ⊎-elim (λ q. let a = last-latest (l ∷ c) z k (u .1) (omega arith) l (List·Memᴰ·head refl) in let b = ap arrivalEnd q in let d = u .0 .1 in omega arith)
     (last-latest (l ∷ c) z k (u .1) (omega arith) i) (List·Memᴰ·cases-cons m)
 
 -- Where all arrive before m, all stand in front of it.
-all-below : (m : ℕ) (c : Cell) → ((i : Interval) → List·Memᴰ i c → i .arrival < m) → length c ≡ frontBelow arrivalOf m c
+all-below : (m : ℕ) (c : Cell) → ((i : Interval) → List·Memᴰ i c → i .arrival < m) → length c ≡ frontBelow arrivalEnd m c
 unfolding frontBelow
 all-below m [] f = refl
 all-below m (i ∷ c) f = rw (lt-ltb (i .arrival) m (f i (List·Memᴰ·head refl))) (ap suc (all-below m c (λ j q. f j (List·Memᴰ·tail q))))
@@ -135,8 +136,8 @@ module _ (t : ℕ) (xs : List ℕ) (s : InUse xs) (n : ℕ) (e : n ≡ get rowsF
   pub latest-empty : n ≡ 0 → 0 ≡ orZero (latestDeparture (cellOf xs) t)
   latest-empty z = ap orZero (sym (latest-none t (cellOf xs) (s .rising) (none (cellOf xs) (omega (arith, count-is xs s)))))
     where
-      none : (c : Cell) → length c ≡ 0 → frontBelow arrivalOf (t + 1) c ≡ 0
-      none c q = omega (arith, front-length arrivalOf (t + 1) c)
+      none : (c : Cell) → length c ≡ 0 → frontBelow arrivalEnd (t + 1) c ≡ 0
+      none c q = omega (arith, front-length arrivalEnd (t + 1) c)
 
   -- Where the last row arrives by t, its departure is the latest.
   pub latest-last : n ≢ 0 → get arrivalField (getD xs n 0) ≤ t → get departureField (getD xs n 0) ≡ orZero (latestDeparture (cellOf xs) t)
@@ -147,7 +148,7 @@ module _ (t : ℕ) (xs : List ℕ) (s : InUse xs) (n : ℕ) (e : n ≡ get rowsF
       go (suc k) q z h =
           let l : length (cellOf xs) ≡ k + 1 = omega (arith, count-is xs s) in
           let r = row-is xs k (omega arith) in
-          let a : getD (cellOf xs) k (intervalOf 0) .arrival ≤ t = subst (λ (i : ℕ). i ≤ t) (sym (ap arrivalOf r ∙ ap (λ (i : ℕ). get arrivalField (getD xs i 0)) (add-one k))) h in
+          let a : getD (cellOf xs) k (intervalOf 0) .arrival ≤ t = subst (λ (i : ℕ). i ≤ t) (sym (ap arrivalEnd r ∙ ap (λ (i : ℕ). get arrivalField (getD xs i 0)) (add-one k))) h in
           let b = all-below (t + 1) (cellOf xs) (λ i m. let w = last-latest (cellOf xs) (intervalOf 0) k (s .rising) l i m in omega arith) in
-          let f : frontBelow arrivalOf (t + 1) (cellOf xs) ≡ suc k = omega (arith, b, l) in
-          sym (ap orZero (latest-some t (cellOf xs) k (intervalOf 0) (s .rising) f) ∙ ap departureOf r ∙ ap (λ (i : ℕ). get departureField (getD xs i 0)) (add-one k))
+          let f : frontBelow arrivalEnd (t + 1) (cellOf xs) ≡ suc k = omega (arith, b, l) in
+          sym (ap orZero (latest-some t (cellOf xs) k (intervalOf 0) (s .rising) f) ∙ ap departureEnd r ∙ ap (λ (i : ℕ). get departureField (getD xs i 0)) (add-one k))

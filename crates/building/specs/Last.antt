@@ -9,6 +9,7 @@ use lib.Dec.{leb}
 use Rattle.journeys.specs.Journey.{Interval, interval}
 use Rattle.journeys.specs.Cell.{Cell, Rising}
 use Rattle.words.specs.Words.{countWord, intervalWord}
+use Rattle.rules.specs.Limits.{maxArrival, maxCellWords}
 use Rattle.rules.specs.Layout.{cellOf}
 
 -- i put at the end of the cell: nothing where the last departs as late or later; in the last's place where that arrives
@@ -32,8 +33,8 @@ withRows c rest = countWord (length c) ∷ (map intervalWord c ++ rest)
 pub record InUse (xs : List ℕ) : Type 0 where
   pub words : xs ≡ withRows (cellOf xs) (drop (length (cellOf xs) + 1) xs)
   pub fits : length (cellOf xs) < length xs
-  pub short : length xs ≤ 1025
+  pub short : length xs ≤ maxCellWords
   pub rising : Rising (cellOf xs)
   pub departs : (i : Interval) → List·Memᴰ i (cellOf xs) → 1 ≤ i .departure
   pub in-time : (i : Interval) → List·Memᴰ i (cellOf xs) → i .departure < length xs
-  pub arrives : (i : Interval) → List·Memᴰ i (cellOf xs) → i .arrival < 2048
+  pub arrives : (i : Interval) → List·Memᴰ i (cellOf xs) → i .arrival ≤ maxArrival

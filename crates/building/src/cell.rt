@@ -4,6 +4,7 @@ ghost use Prim.Native.Nat.{_+_, _≤_, _<_};
 ghost use lib.ListN.{length, drop};
 ghost use Rattle.journeys.specs.Journey.{interval};
 ghost use Rattle.journeys.specs.Cell.{latestDeparture};
+ghost use Rattle.rules.specs.Limits.{maxArrival};
 ghost use Rattle.rules.specs.Layout.{cellOf};
 ghost use Rattle.cells.specs.Stored.{orZero};
 ghost use Rattle.building.specs.Last.{putLast, withRows, InUse};
@@ -14,7 +15,7 @@ fn search_departure(cell: &[u32], t: u32) -> u32
     ensures { λ r. ⌜ r ≡ orZero (latestDeparture (cellOf (now (cell .entry))) t) ⌝ }
 {
     let end = words::rows_of(cell[0]) as usize + 1;
-    let last = cells::arrived_by(&cell[1..end], t);
+    let last = cells::upper_bound_arrival(&cell[1..end], t);
     if last == 0 {
         return 0;
     }
@@ -41,7 +42,7 @@ pub(crate) fn departure_by(cell: &[u32], t: u32) -> u32
 // Puts [d, a] at the end of the rows in use.
 pub(crate) fn append(cell: &mut [u32], d: u32, a: u32)
     requires { ⌜ InUse (now cell) ⌝ }
-    requires { ⌜ (1 ≤ d) × (d < length (now cell)) × (a < 2048) ⌝ }
+    requires { ⌜ (1 ≤ d) × (d < length (now cell)) × (a ≤ maxArrival) ⌝ }
     ensures { λ _. ⌜ now (cell .exit) ≡ withRows (putLast (interval d a) (cellOf (now (cell .entry)))) (drop (length (putLast (interval d a) (cellOf (now (cell .entry)))) + 1) (now (cell .entry))) ⌝ }
 {
     let last = words::rows_of(cell[0]) as usize;

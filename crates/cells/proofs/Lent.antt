@@ -16,7 +16,7 @@ use Rattle.words.specs.Words.{rowsField, departureField, arrivalField, interval
 use Rattle.words.proofs.Packed.{rowsOf-word}
 use Rattle.rules.specs.Layout.{cellWords, cellOf}
 use Rattle.rules.specs.Adding.{sameInterval, stands}
-use Rattle.cells.specs.Stored.{Stored, departureOf, arrivalOf, frontBelow, orZero}
+use Rattle.cells.specs.Stored.{Stored, departureEnd, arrivalEnd, frontBelow, orZero}
 use Rattle.cells.proofs.Search.{front-length, latest-none, latest-some, earliest-none, earliest-some, stands-none, stands-some}
 
 -- A cell has no more intervals than rows.
@@ -81,7 +81,7 @@ module _ {f : Interval → ℕ} {t : ℕ} {xs : List ℕ} {e r : ℕ} (g : Found
   pub found-within : e ≤ length xs
   found-within = omega (arith, count-fits xs (g .stored), g .lent)
 
-module _ (t : ℕ) {xs : List ℕ} {e r : ℕ} (g : Found arrivalOf (t + 1) xs e r) where
+module _ (t : ℕ) {xs : List ℕ} {e r : ℕ} (g : Found arrivalEnd (t + 1) xs e r) where
   -- There is no departure where no row arrives by t.
   pub latest-zero : r ≡ 0 → 0 ≡ orZero (latestDeparture (cellOf xs) t)
   latest-zero z = ap orZero (sym (latest-none t (cellOf xs) (g .stored .rising) (omega (arith, found-is g))))
@@ -90,33 +90,33 @@ module _ (t : ℕ) {xs : List ℕ} {e r : ℕ} (g : Found arrivalOf (t + 1) xs e
   pub latest-word : (r ≡ 0 → ⊥) → get departureField (getD xs r 0) ≡ orZero (latestDeparture (cellOf xs) t)
   latest-word n = go r (found-is g) (found-below g) n
     where
-      go : (r : ℕ) → r ≡ frontBelow arrivalOf (t + 1) (cellOf xs) → r < e → (r ≡ 0 → ⊥)
+      go : (r : ℕ) → r ≡ frontBelow arrivalEnd (t + 1) (cellOf xs) → r < e → (r ≡ 0 → ⊥)
           → get departureField (getD xs r 0) ≡ orZero (latestDeparture (cellOf xs) t)
       go zero p l n = absurd (n refl)
       go (suc k) p l n =
           sym
           (ap orZero (latest-some t (cellOf xs) k (intervalOf 0) (g .stored .rising) (sym p))
-          ∙ ap departureOf (row-is xs k (omega (arith, found-length g)))
+          ∙ ap departureEnd (row-is xs k (omega (arith, found-length g)))
           ∙ ap (λ (i : ℕ). get departureField (getD xs i 0)) (add-one k))
 
-module _ {t : ℕ} {xs : List ℕ} {e r : ℕ} (g : Found departureOf t xs e r) where
+module _ {t : ℕ} {xs : List ℕ} {e r : ℕ} (g : Found departureEnd t xs e r) where
   -- There is no arrival where no row departs at or after t.
   pub earliest-zero : r + 1 ≡ e → 0 ≡ orZero (earliestArrival (cellOf xs) t)
   earliest-zero z = ap orZero (sym (earliest-none t (cellOf xs) (omega (arith, found-is g, found-length g))))
 
   -- The first row that departs at or after t is the word at r + 1.
-  first-row : (r + 1 ≡ e → ⊥) → getD (cellOf xs) (frontBelow departureOf t (cellOf xs)) (intervalOf 0) ≡ intervalOf (getD xs (r + 1) 0)
+  first-row : (r + 1 ≡ e → ⊥) → getD (cellOf xs) (frontBelow departureEnd t (cellOf xs)) (intervalOf 0) ≡ intervalOf (getD xs (r + 1) 0)
   first-row n =
       ap (λ (k : ℕ). getD (cellOf xs) k (intervalOf 0)) (sym (found-is g)) ∙ row-is xs r (omega (arith, found-length g, found-below g, n))
 
   -- There is such a row.
-  first-fits : (r + 1 ≡ e → ⊥) → frontBelow departureOf t (cellOf xs) < length (cellOf xs)
+  first-fits : (r + 1 ≡ e → ⊥) → frontBelow departureEnd t (cellOf xs) < length (cellOf xs)
   first-fits n = omega (arith, found-is g, found-length g, found-below g, n)
 
   -- The earliest arrival is that row's.
   pub earliest-word : (r + 1 ≡ e → ⊥) → get arrivalField (getD xs (r + 1) 0) ≡ orZero (earliestArrival (cellOf xs) t)
   earliest-word n =
-      sym (ap orZero (earliest-some t (cellOf xs) (intervalOf 0) (g .stored .rising) (first-fits n)) ∙ ap arrivalOf (first-row n))
+      sym (ap orZero (earliest-some t (cellOf xs) (intervalOf 0) (g .stored .rising) (first-fits n)) ∙ ap arrivalEnd (first-row n))
 
   -- An interval with departure t does not stand in the cell where no row departs at or after t.
   pub stands-zero : (a : ℕ) → r + 1 ≡ e → stands (interval t a) (cellOf xs) ≡ false

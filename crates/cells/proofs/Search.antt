@@ -13,18 +13,18 @@ use Rattle.journeys.proofs.Tests.{Outcome, holds, fails, lt-outcome}
 use Rattle.journeys.proofs.Cover.{covers-find, rising-after, arrival-path, NotAfter, earliest-iff}
 use Rattle.words.specs.Words.{intervalOf}
 use Rattle.rules.specs.Adding.{sameInterval, stands}
-use Rattle.cells.specs.Stored.{departureOf, arrivalOf, frontBelow}
+use Rattle.cells.specs.Stored.{departureEnd, arrivalEnd, frontBelow}
 
 -- The end f is later where both departure and arrival are.
 abbrev pub Follows : (Interval → ℕ) → Type 0
 Follows f = (i j : Interval) → (i .departure < j .departure) × (i .arrival < j .arrival) → f i < f j
 
 -- The departure is such an end.
-pub departure-follows : Follows departureOf
+pub departure-follows : Follows departureEnd
 departure-follows i j h = h .0
 
 -- The arrival is such an end.
-pub arrival-follows : Follows arrivalOf
+pub arrival-follows : Follows arrivalEnd
 arrival-follows i j h = h .1
 
 -- What stands at an index of the cell is one of its rows.
@@ -131,12 +131,12 @@ module _ (t : ℕ) where
   latest-after (i ∷ c) h = rw (lt-leb (i .arrival) t (h i (List·Memᴰ·head refl))) (latest-after c (λ j m. h j (List·Memᴰ·tail m)))
 
   -- Where no row at the front arrives by t there is no departure.
-  pub latest-none : (c : Cell) → Rising c → frontBelow arrivalOf (t + 1) c ≡ 0 → latestDeparture c t ≡ none
+  pub latest-none : (c : Cell) → Rising c → frontBelow arrivalEnd (t + 1) c ≡ 0 → latestDeparture c t ≡ none
   unfolding frontBelow latestDeparture
   latest-none [] u e = refl
   latest-none (i ∷ c) u e = go (lt-outcome (i .arrival) (t + 1)) e
     where
-      go : {b : Bool} → Outcome (i .arrival < t + 1) (t + 1 ≤ i .arrival) b → cond b (suc (frontBelow arrivalOf (t + 1) c)) 0 ≡ 0
+      go : {b : Bool} → Outcome (i .arrival < t + 1) (t + 1 ≤ i .arrival) b → cond b (suc (frontBelow arrivalEnd (t + 1) c)) 0 ≡ 0
           → latestDeparture (i ∷ c) t ≡ none
       go (holds h) z = absurd (omega arith)
       go (fails h) z = latest-after (i ∷ c) each
@@ -146,23 +146,23 @@ module _ (t : ℕ) where
           each j (List·Memᴰ·tail m) = let r = rising-after i c u m in omega arith
 
   -- Else it is that of the last row that arrives by t.
-  pub latest-some : (c : Cell) (k : ℕ) (d : Interval) → Rising c → frontBelow arrivalOf (t + 1) c ≡ suc k
+  pub latest-some : (c : Cell) (k : ℕ) (d : Interval) → Rising c → frontBelow arrivalEnd (t + 1) c ≡ suc k
       → latestDeparture c t ≡ some (getD c k d .departure)
   unfolding frontBelow latestDeparture later
   latest-some [] k d u e = absurd (omega arith)
   latest-some (i ∷ c) k d u e = go (lt-outcome (i .arrival) (t + 1)) (λ n q. latest-some c n d (u .1) q) e
     where
-      back : ((n : ℕ) → frontBelow arrivalOf (t + 1) c ≡ suc n → latestDeparture c t ≡ some (getD c n d .departure))
-          → (k : ℕ) → frontBelow arrivalOf (t + 1) c ≡ k → later (i .departure) (latestDeparture c t) ≡ some (getD (i ∷ c) k d .departure)
+      back : ((n : ℕ) → frontBelow arrivalEnd (t + 1) c ≡ suc n → latestDeparture c t ≡ some (getD c n d .departure))
+          → (k : ℕ) → frontBelow arrivalEnd (t + 1) c ≡ k → later (i .departure) (latestDeparture c t) ≡ some (getD (i ∷ c) k d .departure)
       back ih zero q = rw (latest-none c (u .1) q) refl
       back ih (suc k) q =
-          let m : List·Memᴰ (getD c k d) c = getD-member c k d (omega (arith, front-length arrivalOf (t + 1) c)) in
+          let m : List·Memᴰ (getD c k d) c = getD-member c k d (omega (arith, front-length arrivalEnd (t + 1) c)) in
           let r = rising-after i c u m in
           rw (ih k q) (ap some (omega arith))
 
       go : {b : Bool} → Outcome (i .arrival < t + 1) (t + 1 ≤ i .arrival) b
-          → ((n : ℕ) → frontBelow arrivalOf (t + 1) c ≡ suc n → latestDeparture c t ≡ some (getD c n d .departure))
-          → cond b (suc (frontBelow arrivalOf (t + 1) c)) 0 ≡ suc k
+          → ((n : ℕ) → frontBelow arrivalEnd (t + 1) c ≡ suc n → latestDeparture c t ≡ some (getD c n d .departure))
+          → cond b (suc (frontBelow arrivalEnd (t + 1) c)) 0 ≡ suc k
           → latestDeparture (i ∷ c) t ≡ some (getD (i ∷ c) k d .departure)
       go (holds h) ih z = rw (le-leb (i .arrival) t (omega arith)) (back ih k (omega arith))
       go (fails h) ih z = absurd (omega arith)
@@ -181,19 +181,19 @@ sooner-first b (some e) n = ap some (go (lt-outcome b e))
 
 module _ (t : ℕ) where
   -- Where every row departs before t there is no arrival.
-  pub earliest-none : (c : Cell) → length c ≤ frontBelow departureOf t c → earliestArrival c t ≡ none
+  pub earliest-none : (c : Cell) → length c ≤ frontBelow departureEnd t c → earliestArrival c t ≡ none
   unfolding frontBelow earliestArrival
   earliest-none [] l = refl
   earliest-none (i ∷ c) l = go (earliest-none c) (lt-outcome (i .departure) t) l
     where
-      go : {b : Bool} → (length c ≤ frontBelow departureOf t c → earliestArrival c t ≡ none) → Outcome (i .departure < t) (t ≤ i .departure) b
-          → suc (length c) ≤ cond b (suc (frontBelow departureOf t c)) 0 → earliestArrival (i ∷ c) t ≡ none
+      go : {b : Bool} → (length c ≤ frontBelow departureEnd t c → earliestArrival c t ≡ none) → Outcome (i .departure < t) (t ≤ i .departure) b
+          → suc (length c) ≤ cond b (suc (frontBelow departureEnd t c)) 0 → earliestArrival (i ∷ c) t ≡ none
       go r (holds h) m = rw (lt-leb t (i .departure) h) (r (omega arith))
       go r (fails h) m = absurd (omega arith)
 
   -- Else it is that of the first row that departs at or after t.
-  pub earliest-some : (c : Cell) (d : Interval) → Rising c → frontBelow departureOf t c < length c
-      → earliestArrival c t ≡ some (getD c (frontBelow departureOf t c) d .arrival)
+  pub earliest-some : (c : Cell) (d : Interval) → Rising c → frontBelow departureEnd t c < length c
+      → earliestArrival c t ≡ some (getD c (frontBelow departureEnd t c) d .arrival)
   unfolding frontBelow earliestArrival
   earliest-some [] d u l = absurd (omega arith)
   earliest-some (i ∷ c) d u l = go (earliest-some c d (u .1)) (lt-outcome (i .departure) t) l
@@ -204,10 +204,10 @@ module _ (t : ℕ) where
           let r = rising-after i c u (v .1) in
           omega (arith, v .2)
 
-      go : {b : Bool} → (frontBelow departureOf t c < length c → earliestArrival c t ≡ some (getD c (frontBelow departureOf t c) d .arrival))
+      go : {b : Bool} → (frontBelow departureEnd t c < length c → earliestArrival c t ≡ some (getD c (frontBelow departureEnd t c) d .arrival))
           → Outcome (i .departure < t) (t ≤ i .departure) b
-          → cond b (suc (frontBelow departureOf t c)) 0 < suc (length c)
-          → earliestArrival (i ∷ c) t ≡ some (getD (i ∷ c) (cond b (suc (frontBelow departureOf t c)) 0) d .arrival)
+          → cond b (suc (frontBelow departureEnd t c)) 0 < suc (length c)
+          → earliestArrival (i ∷ c) t ≡ some (getD (i ∷ c) (cond b (suc (frontBelow departureEnd t c)) 0) d .arrival)
       go r (holds h) m = rw (lt-leb t (i .departure) h) (r (omega arith))
       go r (fails h) m = rw (le-leb t (i .departure) h) (sooner-first (i .arrival) (earliestArrival c t) none-by)
 
@@ -223,28 +223,28 @@ module _ (i : Interval) where
       rw (ne-eqb (i .departure) (j .departure) (λ e. omega arith)) (stands-after c (λ k m. h k (List·Memᴰ·tail m)))
 
   -- Where every row departs before i, it does not stand there.
-  pub stands-none : (c : Cell) → length c ≤ frontBelow departureOf (i .departure) c → stands i c ≡ false
+  pub stands-none : (c : Cell) → length c ≤ frontBelow departureEnd (i .departure) c → stands i c ≡ false
   unfolding frontBelow stands
   stands-none [] l = refl
   stands-none (j ∷ c) l = go (stands-none c) (lt-outcome (j .departure) (i .departure)) l
     where
-      go : {b : Bool} → (length c ≤ frontBelow departureOf (i .departure) c → stands i c ≡ false)
+      go : {b : Bool} → (length c ≤ frontBelow departureEnd (i .departure) c → stands i c ≡ false)
           → Outcome (j .departure < i .departure) (i .departure ≤ j .departure) b
-          → suc (length c) ≤ cond b (suc (frontBelow departureOf (i .departure) c)) 0 → stands i (j ∷ c) ≡ false
+          → suc (length c) ≤ cond b (suc (frontBelow departureEnd (i .departure) c)) 0 → stands i (j ∷ c) ≡ false
       go r (holds h) m = rw (ne-eqb (i .departure) (j .departure) (λ e. omega arith)) (r (omega arith))
       go r (fails h) m = absurd (omega arith)
 
   -- Else it stands there exactly when it is the first row that departs at or after it.
-  pub stands-some : (c : Cell) (d : Interval) → Rising c → frontBelow departureOf (i .departure) c < length c
-      → stands i c ≡ sameInterval i (getD c (frontBelow departureOf (i .departure) c) d)
+  pub stands-some : (c : Cell) (d : Interval) → Rising c → frontBelow departureEnd (i .departure) c < length c
+      → stands i c ≡ sameInterval i (getD c (frontBelow departureEnd (i .departure) c) d)
   unfolding frontBelow stands
   stands-some [] d u l = absurd (omega arith)
   stands-some (j ∷ c) d u l = go (stands-some c d (u .1)) (lt-outcome (j .departure) (i .departure)) l
     where
-      go : {b : Bool} → (frontBelow departureOf (i .departure) c < length c → stands i c ≡ sameInterval i (getD c (frontBelow departureOf (i .departure) c) d))
+      go : {b : Bool} → (frontBelow departureEnd (i .departure) c < length c → stands i c ≡ sameInterval i (getD c (frontBelow departureEnd (i .departure) c) d))
           → Outcome (j .departure < i .departure) (i .departure ≤ j .departure) b
-          → cond b (suc (frontBelow departureOf (i .departure) c)) 0 < suc (length c)
-          → stands i (j ∷ c) ≡ sameInterval i (getD (j ∷ c) (cond b (suc (frontBelow departureOf (i .departure) c)) 0) d)
+          → cond b (suc (frontBelow departureEnd (i .departure) c)) 0 < suc (length c)
+          → stands i (j ∷ c) ≡ sameInterval i (getD (j ∷ c) (cond b (suc (frontBelow departureEnd (i .departure) c)) 0) d)
       go r (holds h) m = rw (ne-eqb (i .departure) (j .departure) (λ e. omega arith)) (r (omega arith))
       go r (fails h) m =
           rw (stands-after c (λ k n. let q = rising-after j c u n in omega arith)) (or-false (sameInterval i j))

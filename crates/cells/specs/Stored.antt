@@ -8,24 +8,25 @@ use lib.ListN.{length}
 use lib.Dec.{ltb}
 use Rattle.journeys.specs.Journey.{Interval}
 use Rattle.journeys.specs.Cell.{Cell, Rising}
+use Rattle.rules.specs.Limits.{maxArrival, maxCellWords}
 use Rattle.rules.specs.Layout.{cellWords, cellOf}
 
 -- The words are those of a rising cell with departures from 1 to the number of its rows and ends of 11 bits.
 pub record Stored (xs : List ℕ) : Type 0 where
   pub words : xs ≡ cellWords (length xs - 1) (cellOf xs)
   pub long : 1 ≤ length xs
-  pub short : length xs ≤ 1025
+  pub short : length xs ≤ maxCellWords
   pub rising : Rising (cellOf xs)
   pub departs : (i : Interval) → List·Memᴰ i (cellOf xs) → 1 ≤ i .departure
   pub in-time : (i : Interval) → List·Memᴰ i (cellOf xs) → i .departure < length xs
-  pub arrives : (i : Interval) → List·Memᴰ i (cellOf xs) → i .arrival < 2048
+  pub arrives : (i : Interval) → List·Memᴰ i (cellOf xs) → i .arrival ≤ maxArrival
 
 -- The two ends of an interval, as functions.
-abbrev pub departureOf : Interval → ℕ
-departureOf i = i .departure
+abbrev pub departureEnd : Interval → ℕ
+departureEnd i = i .departure
 
-abbrev pub arrivalOf : Interval → ℕ
-arrivalOf i = i .arrival
+abbrev pub arrivalEnd : Interval → ℕ
+arrivalEnd i = i .arrival
 
 -- How many intervals at the front of the cell have their end f below t.
 unfoldable pub frontBelow : (Interval → ℕ) → ℕ → Cell → ℕ

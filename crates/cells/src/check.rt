@@ -1,13 +1,14 @@
 // The parts of the check of a cell: a row, the rows in use, and the unused words.
 ghost use mathlib.Core.Path.{_≡_};
 ghost use Prim.Native.Nat.{_≤_};
-ghost use Rattle.rules.specs.Checks.{fineRow, fineRows, allUnused};
+ghost use Rattle.rules.specs.Limits.{maxTicks, maxCarry};
+ghost use Rattle.rules.specs.Checks.{rowWellFormed, rowsWellFormed, allUnused};
 
 // Whether the word is an interval in its limits that departs after p and arrives after q. An arrival from departure +
 // carry to ticks + carry has a departure of at most ticks.
-fn row_fine(w: u32, ticks: u32, carry: u32, p: u32, q: u32) -> bool
-    requires { ⌜ (ticks ≤ 1024) × (carry ≤ 256) ⌝ }
-    ensures { λ r. ⌜ r ≡ fineRow ticks carry p q w ⌝ }
+fn row_well_formed(w: u32, ticks: u32, carry: u32, p: u32, q: u32) -> bool
+    requires { ⌜ (ticks ≤ maxTicks) × (carry ≤ maxCarry) ⌝ }
+    ensures { λ r. ⌜ r ≡ rowWellFormed ticks carry p q w ⌝ }
 {
     let d = words::departure_of(w);
     let a = words::arrival_of(w);
@@ -27,16 +28,16 @@ fn row_fine(w: u32, ticks: u32, carry: u32, p: u32, q: u32) -> bool
 }
 
 // Whether the rows are intervals in their limits whose departures and arrivals rise.
-pub(crate) fn rows_fine(rows: &[u32], ticks: u32, carry: u32) -> bool
-    requires { ⌜ (ticks ≤ 1024) × (carry ≤ 256) ⌝ }
-    ensures { λ r. ⌜ r ≡ fineRows ticks carry 0 0 (now (rows .entry)) ⌝ }
+pub(crate) fn rows_well_formed(rows: &[u32], ticks: u32, carry: u32) -> bool
+    requires { ⌜ (ticks ≤ maxTicks) × (carry ≤ maxCarry) ⌝ }
+    ensures { λ r. ⌜ r ≡ rowsWellFormed ticks carry 0 0 (now (rows .entry)) ⌝ }
 {
     let mut p = 0;
     let mut q = 0;
     let mut i = 0;
     while i < rows.len() {
         let w = rows[i];
-        if !row_fine(w, ticks, carry, p, q) {
+        if !row_well_formed(w, ticks, carry, p, q) {
             return false;
         }
         p = words::departure_of(w);

@@ -9,15 +9,16 @@ ghost use Rattle.journeys.specs.Journey.{interval};
 ghost use Rattle.journeys.specs.Cell.{Rising, latestDeparture, earliestArrival};
 ghost use Rattle.words.specs.Layout.{get};
 ghost use Rattle.words.specs.Words.{rowsField, intervalOf};
+ghost use Rattle.rules.specs.Limits.{maxTicks, maxCarry};
 ghost use Rattle.rules.specs.Layout.{cellOf};
-ghost use Rattle.rules.specs.Checks.{fineCell};
+ghost use Rattle.rules.specs.Checks.{cellWellFormed};
 ghost use Rattle.rules.specs.Adding.{stands};
-ghost use Rattle.cells.specs.Stored.{Stored, departureOf, arrivalOf, frontBelow, orZero};
+ghost use Rattle.cells.specs.Stored.{Stored, departureEnd, arrivalEnd, frontBelow, orZero};
 
 // The first of the rows that departs at or after t: the number of rows before it.
-pub fn first_from(rows: &[u32], t: u32) -> usize
+pub fn lower_bound_departure(rows: &[u32], t: u32) -> usize
     requires { ⌜ Rising (map intervalOf (now rows)) ⌝ }
-    ensures { λ r. ⌜ r ≡ frontBelow departureOf t (map intervalOf (now (rows .entry))) ⌝ }
+    ensures { λ r. ⌜ r ≡ frontBelow departureEnd t (map intervalOf (now (rows .entry))) ⌝ }
 {
     let mut lo = 0;
     let mut hi = rows.len();
@@ -33,9 +34,9 @@ pub fn first_from(rows: &[u32], t: u32) -> usize
 }
 
 // The number of rows that arrive by t; they stand at the front.
-pub fn arrived_by(rows: &[u32], t: u32) -> usize
+pub fn upper_bound_arrival(rows: &[u32], t: u32) -> usize
     requires { ⌜ Rising (map intervalOf (now rows)) ⌝ }
-    ensures { λ r. ⌜ r ≡ frontBelow arrivalOf (t + 1) (map intervalOf (now (rows .entry))) ⌝ }
+    ensures { λ r. ⌜ r ≡ frontBelow arrivalEnd (t + 1) (map intervalOf (now (rows .entry))) ⌝ }
 {
     let mut least = 0;
     let mut most = rows.len();
@@ -64,7 +65,7 @@ pub fn latest_departure(cell: &[u32], t: u32) -> u32
     ensures { λ r. ⌜ r ≡ orZero (latestDeparture (cellOf (now (cell .entry))) t) ⌝ }
 {
     let end = rows_end(cell);
-    let last = arrived_by(&cell[1..end], t);
+    let last = upper_bound_arrival(&cell[1..end], t);
     if last == 0 {
         return 0;
     }
@@ -77,7 +78,7 @@ pub fn earliest_arrival(cell: &[u32], t: u32) -> u32
     ensures { λ r. ⌜ r ≡ orZero (earliestArrival (cellOf (now (cell .entry))) t) ⌝ }
 {
     let end = rows_end(cell);
-    let first = first_from(&cell[1..end], t) + 1;
+    let first = lower_bound_departure(&cell[1..end], t) + 1;
     if first == end {
         return 0;
     }
@@ -85,12 +86,12 @@ pub fn earliest_arrival(cell: &[u32], t: u32) -> u32
 }
 
 // Whether [d, a] stands in the cell.
-pub fn holds(cell: &[u32], d: u32, a: u32) -> bool
+pub fn stands(cell: &[u32], d: u32, a: u32) -> bool
     requires { ⌜ Stored (now cell) ⌝ }
     ensures { λ r. ⌜ r ≡ stands (interval d a) (cellOf (now (cell .entry))) ⌝ }
 {
     let end = rows_end(cell);
-    let at = first_from(&cell[1..end], d) + 1;
+    let at = lower_bound_departure(&cell[1..end], d) + 1;
     if at == end {
         return false;
     }
@@ -105,9 +106,9 @@ pub fn holds(cell: &[u32], d: u32, a: u32) -> bool
 }
 
 // Whether the words are a well-formed cell with at most `most` rows in use.
-pub fn is_fine(cell: &[u32], ticks: u32, carry: u32, most: u32) -> bool
-    requires { ⌜ (most + 1 ≤ length (now cell)) × (ticks ≤ 1024) × (carry ≤ 256) × (most ≤ 1024) ⌝ }
-    ensures { λ r. ⌜ r ≡ fineCell ticks carry most (now (cell .entry)) ⌝ }
+pub fn is_well_formed(cell: &[u32], ticks: u32, carry: u32, most: u32) -> bool
+    requires { ⌜ (most + 1 ≤ length (now cell)) × (ticks ≤ maxTicks) × (carry ≤ maxCarry) × (most ≤ maxTicks) ⌝ }
+    ensures { λ r. ⌜ r ≡ cellWellFormed ticks carry most (now (cell .entry)) ⌝ }
 {
     let w = cell[0];
     if !words::is_count(w) {
@@ -118,7 +119,7 @@ pub fn is_fine(cell: &[u32], ticks: u32, carry: u32, most: u32) -> bool
         return false;
     }
     let end = rows as usize + 1;
-    if !check::rows_fine(&cell[1..end], ticks, carry) {
+    if !check::rows_well_formed(&cell[1..end], ticks, carry) {
         return false;
     }
     check::all_unused(&cell[end..])

@@ -9,8 +9,9 @@ use native.Mathlib.Omega.{arith}
 use lib.Dec.{ltb, eqb}
 use borrow.Author.Tests.{eq-eqb, ne-eqb, lt-ltb}
 use Rattle.journeys.specs.Journey.{contact, interval}
+use Rattle.rules.specs.Limits.{maxTicks}
 use Rattle.rules.specs.Layout.{animals, carry, cellsOf}
-use Rattle.rules.specs.Checks.{Passes}
+use Rattle.rules.specs.Checks.{ValidTable}
 use Rattle.rules.specs.Adding.{stands, holds}
 use Rattle.rules.specs.Chains.{departureWith, Lead, nowhere, there, onward, onwardFrom, leads, Lowest, nobody, animal, orElse, lowest}
 use Rattle.rules.proofs.Sound.{table-sizes, passes-good}
@@ -56,18 +57,18 @@ module _ (T : List ℕ) (goal b x d z a : ℕ) (e : a ≡ d + carry T) {s : Bool
         go (found {d = t} m k) (suc q) r = rw (lt-ltb 0 (suc q) (omega arith)) (ap onward r)
 
 -- The next departure is one of the table.
-pub lead-bound : (T : List ℕ) → Passes T → (goal b x d z : ℕ) → goal < animals T → z < animals T → (q : ℕ) → leads T goal b x d z ≡ onward q → (1 ≤ q) × (q ≤ 1024)
+pub lead-bound : (T : List ℕ) → ValidTable T → (goal b x d z : ℕ) → goal < animals T → z < animals T → (q : ℕ) → leads T goal b x d z ≡ onward q → (1 ≤ q) × (q ≤ maxTicks)
 unfolding leads
 lead-bound T p goal b x d z hg hz q = go (holds T (contact x z d)) (eqb z goal) (eqb (d + carry T) b) (departing (d + carry T) b (cellsOf T z goal))
   where
-    not-nowhere : nowhere ≡ onward q → (1 ≤ q) × (q ≤ 1024)
+    not-nowhere : nowhere ≡ onward q → (1 ≤ q) × (q ≤ maxTicks)
     not-nowhere e = absurd (let n : _≡_ {A = ℕ} 0 1 = cc in omega arith)
 
-    not-there : there ≡ onward q → (1 ≤ q) × (q ≤ 1024)
+    not-there : there ≡ onward q → (1 ≤ q) × (q ≤ maxTicks)
     not-there e = absurd (let n : _≡_ {A = ℕ} 0 1 = cc in omega arith)
 
     go : (h g t : Bool) {o : Option ℕ} → Departing (d + carry T) b (cellsOf T z goal) o
-        → cond h (cond g (cond t there nowhere) (onwardFrom o)) nowhere ≡ onward q → (1 ≤ q) × (q ≤ 1024)
+        → cond h (cond g (cond t there nowhere) (onwardFrom o)) nowhere ≡ onward q → (1 ≤ q) × (q ≤ maxTicks)
     go false g t w e = not-nowhere e
     go true true true w e = not-there e
     go true true false w e = not-nowhere e

@@ -11,7 +11,7 @@ use Rattle.journeys.specs.Cell.{Cell, Rising, latestDeparture}
 use Rattle.journeys.proofs.Tests.{Outcome, holds, fails}
 use Rattle.journeys.proofs.Cover.{Covers, NotBefore, covers-member, rising-least, latest-iff}
 use Rattle.rules.specs.Layout.{animals, ticks, cellAt, cellOf, cellsOf}
-use Rattle.rules.specs.Checks.{Passes}
+use Rattle.rules.specs.Checks.{ValidTable}
 use Rattle.rules.specs.Adding.{stands}
 use Rattle.rules.specs.Chains.{departureWith}
 use Rattle.rules.proofs.Sound.{passes-good}
@@ -22,7 +22,7 @@ use Rattle.cells.proofs.Checks.{stopped, passed}
 use Rattle.pair_cells.proofs.Read.{tick-some}
 
 -- The cells of a table that passes its checks rise.
-pub cell-rises : (T : List ℕ) → Passes T → (u v : ℕ) → u < animals T → v < animals T → Rising (cellsOf T u v)
+pub cell-rises : (T : List ℕ) → ValidTable T → (u v : ℕ) → u < animals T → v < animals T → Rising (cellsOf T u v)
 cell-rises T p u v h k = passes-good T p .cells u v h k .rising
 
 -- ---- the departure with a given arrival

@@ -13,12 +13,13 @@ use borrow.Author.Tests.{ltb-true, leb-true, le-leb, lt-leb, not-true, not-false
 use Rattle.journeys.specs.Journey.{Contact}
 use Rattle.journeys.specs.Cell.{latestDeparture, earliestArrival}
 use Rattle.words.specs.Words.{contactWord}
+use Rattle.rules.specs.Limits.{maxTicks, maxCellWords}
 use Rattle.rules.specs.declared.Refusal.{Refusal}
 use Rattle.rules.specs.declared.Refusal.the-variants.{NoSuchAnimal, SameAnimal, TickOutOfRange, ChainBufferTooShort}
 use Rattle.rules.specs.declared.ChainAnswer.the-variants.{Chain, NoJourney, Refused as ChainRefused}
 use Rattle.rules.specs.Answers.{ensure}
 use Rattle.rules.specs.Layout.{animals, cellsOf}
-use Rattle.rules.specs.Checks.{Passes}
+use Rattle.rules.specs.Checks.{ValidTable}
 use Rattle.rules.specs.Adding.{ensurePair}
 use Rattle.rules.specs.Questions.{windowInRange, inOrder, ensureWindow}
 use Rattle.rules.specs.Chains.{chainFrom, chainOf, chainRefusal, chainAnswerOf, chainAnswer, chainWords, chainLeaves}
@@ -26,10 +27,10 @@ use Rattle.rules.proofs.Folds.{and-left, and-right}
 use Rattle.rules.proofs.Judged.{ensure-iff}
 use Rattle.rules.proofs.Sound.{table-sizes, passes-good}
 use Rattle.cells.specs.Stored.{orZero}
-use Rattle.verdicts.specs.declared.Verdict.{Verdict}
-use Rattle.verdicts.specs.declared.Verdict.the-variants.{Passed, Refused}
-use Rattle.verdicts.specs.Verdicts.{verdictOf}
-use Rattle.verdicts.proofs.Groups.{verdict-refused, verdict-passed}
+use Rattle.checks.specs.declared.Verdict.{Verdict}
+use Rattle.checks.specs.declared.Verdict.the-variants.{Passed, Refused}
+use Rattle.checks.specs.Verdicts.{verdictOf}
+use Rattle.checks.proofs.Groups.{verdict-refused, verdict-passed}
 use Rattle.adding.proofs.Ticks.{Tick, tick-below, latest-tick}
 use Rattle.pair_cells.proofs.Read.{earliest-from-one, latest-from-one, tick-none, tick-some}
 use Rattle.questions.proofs.Answered.{passes-of}
@@ -71,7 +72,7 @@ pub none-collected : (f : Bool) (k : ℕ) (ws : List ℕ) (o : Option (List ℕ)
 unfolding collected
 none-collected f k ws o e h = rw e h
 
-module _ (T : List ℕ) (p : Passes T) (u v : ℕ) (hu : u < animals T) (hv : v < animals T) (first last b : ℕ) (e : b ≡ orZero (earliestArrival (cellsOf T u v) first)) where
+module _ (T : List ℕ) (p : ValidTable T) (u v : ℕ) (hu : u < animals T) (hv : v < animals T) (first last b : ℕ) (e : b ≡ orZero (earliestArrival (cellsOf T u v) first)) where
   -- No arrival: no chain.
   pub none-arrives : b ≡ 0 → chainOf T u v first last ≡ none
   unfolding chainOf
@@ -97,17 +98,17 @@ module _ (T : List ℕ) (p : Passes T) (u v : ℕ) (hu : u < animals T) (hv : v 
           rw (tick-some (earliestArrival (cellsOf T u v) first) b e n, le-leb b last l, tick-some (latestDeparture (cellsOf T u v) b) d f z) q
 
       -- The departure is a tick of the table.
-      pub departs-by : d ≤ 1024
+      pub departs-by : d ≤ maxTicks
       departs-by =
           let z = table-sizes T in
-          let t : Tick 1025 (latestDeparture (cellsOf T u v) b) = latest-tick 1025 b (cellsOf T u v) (λ i q. let m = passes-good T p .cells u v hu hv .limits i q in omega (arith, m .departs, m .in-time, z .τ-high)) in
-          omega (arith, tick-below 1025 (latestDeparture (cellsOf T u v) b) (omega arith) t)
+          let t : Tick maxCellWords (latestDeparture (cellsOf T u v) b) = latest-tick maxCellWords b (cellsOf T u v) (λ i q. let m = passes-good T p .cells u v hu hv .limits i q in omega (arith, m .departs, m .in-time, z .τ-high)) in
+          omega (arith, tick-below maxCellWords (latestDeparture (cellsOf T u v) b) (omega arith) t)
 
 -- ---- the answer
 
 -- What the checks say of a call that is not refused: the table passed, the two are animals of it, and the buffer is long enough.
 pub record Accepted (T : List ℕ) (u v m : ℕ) : Type 0 where
-  pub passes : Passes T
+  pub passes : ValidTable T
   pub from-below : u < animals T
   pub to-below : v < animals T
   pub room : animals T - 1 ≤ m

@@ -11,9 +11,10 @@ use lib.Seq.{take-suc-set}
 use borrow.Author.Tests.{not-true, not-false}
 use Rattle.journeys.specs.Journey.{Contact, contact}
 use Rattle.words.specs.Words.{contactWord}
+use Rattle.rules.specs.Limits.{maxTicks, maxChain}
 use Rattle.rules.specs.Layout.{animals}
-use Rattle.rules.specs.Checks.{Passes}
-use Rattle.rules.specs.Chains.{nobody, leads, lowest, before, chainFrom}
+use Rattle.rules.specs.Checks.{ValidTable}
+use Rattle.rules.specs.Chains.{nobody, leads, lowest, prepend, chainFrom}
 use Rattle.rules.proofs.Sound.{table-sizes}
 use Rattle.chains.specs.Found.{leadOf, lowestOf, wordsOf, collected}
 use Rattle.chains.proofs.Leading.{lead-bound, lowest-bound}
@@ -54,7 +55,7 @@ module _ (T : List ℕ) (goal b m x t : ℕ) where
   unfolding chainFrom wordsOf lowestOf leadOf prefixed
   step-on z q e = rw (sym e) (go (chainFrom T goal b m z (suc q)))
     where
-      go : (o : Option (List Contact)) → wordsOf (before (contact x z t) o) ≡ prefixed (contactWord (contact x z t) ∷ []) (wordsOf o)
+      go : (o : Option (List Contact)) → wordsOf (prepend (contact x z t) o) ≡ prefixed (contactWord (contact x z t) ∷ []) (wordsOf o)
       go none = refl
       go (some l) = refl
 
@@ -65,12 +66,12 @@ pub record Walk (T : List ℕ) (goal b u d n : ℕ) (x t k : ℕ) (ws : List ℕ
   pub below : k < n
   pub at-animal : x < animals T
   pub from-one : 1 ≤ t
-  pub to-last : t ≤ 1024
-  pub long : length ws ≡ 255
+  pub to-last : t ≤ maxTicks
+  pub long : length ws ≡ maxChain
   pub whole : wordsOf (chainFrom T goal b (n - 1) u d) ≡ prefixed (take k ws) (wordsOf (chainFrom T goal b (n - 1 - k) x t))
 
 -- It starts at u.
-pub walk-start : (T : List ℕ) (goal b u d n : ℕ) (ws : List ℕ) → n ≡ animals T → u < animals T → 1 ≤ d → d ≤ 1024 → length ws ≡ 255 → Walk T goal b u d n u d 0 ws
+pub walk-start : (T : List ℕ) (goal b u d n : ℕ) (ws : List ℕ) → n ≡ animals T → u < animals T → 1 ≤ d → d ≤ maxTicks → length ws ≡ maxChain → Walk T goal b u d n u d 0 ws
 walk-start T goal b u d n ws e h l k f =
     let q : n - 1 ≡ n - 1 - 0 = omega arith in
     record {
@@ -102,7 +103,7 @@ module _ {T : List ℕ} {goal b u d n x t k : ℕ} {ws : List ℕ} (w : Walk T g
       let s : n - 1 - k ≡ 0 = omega (arith, w .below) in
       sym (whole-is none (ap (λ (i : ℕ). wordsOf (chainFrom T goal b i x t)) s))
 
-  module _ (p : Passes T) (hg : goal < animals T) (l : k + 1 < n) (r : Bool) (z q : ℕ) (f : lowestOf r z q ≡ lowest (leads T goal b x t) (animals T)) (h : not r ≡ false) where
+  module _ (p : ValidTable T) (hg : goal < animals T) (l : k + 1 < n) (r : Bool) (z q : ℕ) (f : lowestOf r z q ≡ lowest (leads T goal b x t) (animals T)) (h : not r ≡ false) where
     -- The animal was found.
     found-is : lowestOf true z q ≡ lowest (leads T goal b x t) (animals T)
     found-is = ap (λ (i : Bool). lowestOf i z q) (sym (not-false r h)) ∙ f

@@ -6,15 +6,17 @@ ghost use mathlib.Core.Path.{_≡_};
 ghost use Prim.Native.Nat.{_<_, _≤_};
 ghost use mathlib.Core.List.{_++_};
 ghost use lib.ListN.{length, take, drop};
+ghost use Rattle.rules.specs.Limits.{maxChain};
 ghost use Rattle.rules.specs.Layout.{animals};
-ghost use Rattle.rules.specs.Checks.{Passes};
+ghost use Rattle.rules.specs.Checks.{ValidTable};
 ghost use Rattle.rules.specs.Chains.{chainOf, chainAnswer, chainLeaves};
-ghost use Rattle.verdicts.specs.Verdicts.{verdictOf};
+ghost use Rattle.checks.specs.Verdicts.{verdictOf};
 ghost use Rattle.chains.specs.Found.{wordsOf, collected, roomCheck, chainChecks};
+use checks::Verdict;
 use rules::ChainAnswer;
 use rules::Refusal;
 use steps::Steps;
-use verdicts::Verdict;
+use tables::Opening;
 
 // Check 10, of a buffer with room for so many words.
 fn judge_room(table: &[u32], room: usize) -> Verdict
@@ -29,8 +31,8 @@ fn judge_room(table: &[u32], room: usize) -> Verdict
 }
 
 // Writes the first words of the chain to the front of the buffer.
-fn write_front(buffer: &mut [u32], from: [u32; 255], count: usize)
-    requires { ⌜ (count ≤ length (now buffer)) × (count ≤ 255) × (length from ≡ 255) ⌝ }
+fn write_front(buffer: &mut [u32], from: [u32; Opening::MAX_CHAIN], count: usize)
+    requires { ⌜ (count ≤ length (now buffer)) × (count ≤ maxChain) × (length from ≡ maxChain) ⌝ }
     ensures { λ _. ⌜ now (buffer .exit) ≡ take count from ++ drop count (now (buffer .entry)) ⌝ }
 {
     for i in 0..count {
@@ -42,15 +44,15 @@ fn write_front(buffer: &mut [u32], from: [u32; 255], count: usize)
 fn judge_chain(table: &[u32], u: u32, v: u32, first: u32, last: u32, room: usize) -> Verdict
     ensures { λ r. ⌜ r ≡ verdictOf (chainChecks (now (table .entry)) u v first last room) ⌝ }
 {
-    let whole = verdicts::judge_table(table);
+    let whole = checks::judge_table(table);
     match whole {
         Verdict::Refused(r) => Verdict::Refused(r),
         Verdict::Passed => {
-            let pair = verdicts::judge_pair(table, u, v);
+            let pair = checks::judge_pair(table, u, v);
             match pair {
                 Verdict::Refused(r) => Verdict::Refused(r),
                 Verdict::Passed => {
-                    let window = verdicts::judge_window(table, first, last);
+                    let window = checks::judge_window(table, first, last);
                     match window {
                         Verdict::Refused(r) => Verdict::Refused(r),
                         Verdict::Passed => judge_room(table, room),
@@ -63,10 +65,10 @@ fn judge_chain(table: &[u32], u: u32, v: u32, first: u32, last: u32, room: usize
 
 // The chain from u to v in the window, on a table that passed its checks.
 fn find(table: &[u32], u: u32, v: u32, first: u32, last: u32) -> Steps
-    requires { ⌜ Passes (now table) ⌝ }
+    requires { ⌜ ValidTable (now table) ⌝ }
     requires { ⌜ (u < animals (now table)) × (v < animals (now table)) ⌝ }
     ensures { λ r. ⌜ collected (r .found) (r .count) (r .words) ≡ wordsOf (chainOf (now (table .entry)) u v first last) ⌝ }
-    ensures { λ r. ⌜ (r .count < animals (now (table .entry))) × (length (r .words) ≡ 255) ⌝ }
+    ensures { λ r. ⌜ (r .count < animals (now (table .entry))) × (length (r .words) ≡ maxChain) ⌝ }
 {
     let arrival = pair_cells::first_arrival(table, u, v, first);
     if arrival == 0 {

@@ -2,14 +2,14 @@
 ghost use mathlib.Core.Path.{_≡_};
 ghost use Prim.Native.Nat.{_<_, _≤_};
 ghost use Rattle.rules.specs.Layout.{animals, cellsOf};
-ghost use Rattle.rules.specs.Checks.{Passes};
+ghost use Rattle.rules.specs.Checks.{ValidTable};
 ghost use Rattle.rules.specs.Chains.{departureWith};
 ghost use Rattle.cells.specs.Stored.{orZero};
 
 // The departure of an interval of cell (u, v) with arrival b that departs at or after a, or 0 where there is none: it can
 // only be the latest with arrival at most b.
 pub(crate) fn departure_with(table: &[u32], u: u32, v: u32, a: u32, b: u32) -> u32
-    requires { ⌜ Passes (now table) ⌝ }
+    requires { ⌜ ValidTable (now table) ⌝ }
     requires { ⌜ (u < animals (now table)) × (v < animals (now table)) × (1 ≤ a) ⌝ }
     ensures { λ r. ⌜ r ≡ orZero (departureWith a b (cellsOf (now (table .entry)) u v)) ⌝ }
 {

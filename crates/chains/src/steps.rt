@@ -3,10 +3,12 @@ ghost use mathlib.Core.Path.{_≡_};
 ghost use mathlib.Core.Bool.{false};
 ghost use Prim.Native.Nat.{_-_, _<_, _≤_};
 ghost use lib.ListN.{length};
+ghost use Rattle.rules.specs.Limits.{maxTicks, maxChain};
 ghost use Rattle.rules.specs.Layout.{animals};
-ghost use Rattle.rules.specs.Checks.{Passes};
+ghost use Rattle.rules.specs.Checks.{ValidTable};
 ghost use Rattle.rules.specs.Chains.{leads, lowest, chainFrom};
 ghost use Rattle.chains.specs.Found.{leadOf, lowestOf, wordsOf, collected};
+use tables::Opening;
 
 // Whether a contact leads on, and the next departure; 0 at the goal.
 struct Way {
@@ -25,24 +27,24 @@ struct Next {
 pub(crate) struct Steps {
     pub(crate) found: bool,
     pub(crate) count: usize,
-    pub(crate) words: [u32; 255],
+    pub(crate) words: [u32; Opening::MAX_CHAIN],
 }
 
 // No chain.
 pub(crate) fn none() -> Steps
-    ensures { λ r. ⌜ (r .found ≡ false) × (r .count ≡ 0) × (length (r .words) ≡ 255) ⌝ }
+    ensures { λ r. ⌜ (r .found ≡ false) × (r .count ≡ 0) × (length (r .words) ≡ maxChain) ⌝ }
 {
     Steps {
         found: false,
         count: 0,
-        words: [0u32; 255],
+        words: [0u32; Opening::MAX_CHAIN],
     }
 }
 
 // Where the contact (x, z, d) leads towards the goal with arrival b.
 fn lead(table: &[u32], goal: u32, b: u32, x: u32, d: u32, z: u32) -> Way
-    requires { ⌜ Passes (now table) ⌝ }
-    requires { ⌜ (x < animals (now table)) × (z < animals (now table)) × (goal < animals (now table)) × (d ≤ 1024) ⌝ }
+    requires { ⌜ ValidTable (now table) ⌝ }
+    requires { ⌜ (x < animals (now table)) × (z < animals (now table)) × (goal < animals (now table)) × (d ≤ maxTicks) ⌝ }
     ensures { λ r. ⌜ leadOf (r .on) (r .next) ≡ leads (now (table .entry)) goal b x d z ⌝ }
 {
     let a = d + words::carry_of(table[0]);
@@ -64,8 +66,8 @@ fn lead(table: &[u32], goal: u32, b: u32, x: u32, d: u32, z: u32) -> Way
 
 // The lowest-numbered animal to which a contact of x at d leads.
 fn lowest(table: &[u32], goal: u32, b: u32, x: u32, d: u32) -> Next
-    requires { ⌜ Passes (now table) ⌝ }
-    requires { ⌜ (x < animals (now table)) × (goal < animals (now table)) × (d ≤ 1024) ⌝ }
+    requires { ⌜ ValidTable (now table) ⌝ }
+    requires { ⌜ (x < animals (now table)) × (goal < animals (now table)) × (d ≤ maxTicks) ⌝ }
     ensures { λ r. ⌜ lowestOf (r .found) (r .animal) (r .next) ≡ lowest (leads (now (table .entry)) goal b x d) (animals (now (table .entry))) ⌝ }
 {
     let n = words::animals_of(table[0]);
@@ -88,13 +90,13 @@ fn lowest(table: &[u32], goal: u32, b: u32, x: u32, d: u32) -> Next
 
 // The chain from u with departure d to the goal with arrival b.
 pub(crate) fn collect(table: &[u32], goal: u32, b: u32, u: u32, d: u32) -> Steps
-    requires { ⌜ Passes (now table) ⌝ }
-    requires { ⌜ (u < animals (now table)) × (goal < animals (now table)) × (1 ≤ d) × (d ≤ 1024) ⌝ }
+    requires { ⌜ ValidTable (now table) ⌝ }
+    requires { ⌜ (u < animals (now table)) × (goal < animals (now table)) × (1 ≤ d) × (d ≤ maxTicks) ⌝ }
     ensures { λ r. ⌜ collected (r .found) (r .count) (r .words) ≡ wordsOf (chainFrom (now (table .entry)) goal b (animals (now (table .entry)) - 1) u d) ⌝ }
-    ensures { λ r. ⌜ (r .count < animals (now (table .entry))) × (length (r .words) ≡ 255) ⌝ }
+    ensures { λ r. ⌜ (r .count < animals (now (table .entry))) × (length (r .words) ≡ maxChain) ⌝ }
 {
     let n = words::animals_of(table[0]) as usize;
-    let mut kept = [0u32; 255];
+    let mut kept = [0u32; Opening::MAX_CHAIN];
     let mut x = u;
     let mut t = d;
     let mut k = 0;

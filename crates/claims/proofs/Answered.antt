@@ -8,10 +8,10 @@ use Rattle.rules.specs.declared.Refusal.{Refusal}
 use Rattle.rules.specs.declared.AskAnswer.the-variants.{Yes, No, Refused as AskRefused}
 use Rattle.rules.specs.Questions.{reachRefusal}
 use Rattle.rules.specs.Claims.{spells, claimedAnswer}
-use Rattle.verdicts.specs.declared.Verdict.{Verdict}
-use Rattle.verdicts.specs.declared.Verdict.the-variants.{Passed, Refused}
-use Rattle.verdicts.specs.Verdicts.{verdictOf}
-use Rattle.verdicts.proofs.Groups.{verdict-refused, verdict-passed}
+use Rattle.checks.specs.declared.Verdict.{Verdict}
+use Rattle.checks.specs.declared.Verdict.the-variants.{Passed, Refused}
+use Rattle.checks.specs.Verdicts.{verdictOf}
+use Rattle.checks.proofs.Groups.{verdict-refused, verdict-passed}
 
 module _ (T : List ℕ) (u v first last : ℕ) (ws : List ℕ) (w : Verdict) (p : w ≡ verdictOf (reachRefusal T u v first last)) where
   -- A refusal of the checks is the answer.

@@ -2,16 +2,17 @@
 ghost use mathlib.Core.Path.{_≡_};
 ghost use Prim.Native.Nat.{_<_, _≤_};
 ghost use Rattle.journeys.specs.Journey.{contact};
+ghost use Rattle.rules.specs.Limits.{maxTicks};
 ghost use Rattle.rules.specs.Layout.{animals};
-ghost use Rattle.rules.specs.Checks.{Passes};
+ghost use Rattle.rules.specs.Checks.{ValidTable};
 ghost use Rattle.rules.specs.Adding.{holds};
 ghost use Rattle.rules.specs.Claims.{heldWord};
 ghost use Rattle.claims.specs.Following.{goesOn};
 
 // Whether the table holds the contact (u, v, t).
 fn holds(table: &[u32], u: u32, v: u32, t: u32) -> bool
-    requires { ⌜ Passes (now table) ⌝ }
-    requires { ⌜ (u < animals (now table)) × (v < animals (now table)) × (t ≤ 1024) ⌝ }
+    requires { ⌜ ValidTable (now table) ⌝ }
+    requires { ⌜ (u < animals (now table)) × (v < animals (now table)) × (t ≤ maxTicks) ⌝ }
     ensures { λ r. ⌜ r ≡ holds (now (table .entry)) (contact u v t) ⌝ }
 {
     let w = table[0];
@@ -20,12 +21,12 @@ fn holds(table: &[u32], u: u32, v: u32, t: u32) -> bool
     let a = t + words::carry_of(w);
     let at = 1 + (u as usize * n + v as usize) * size;
     let end = at + size;
-    cells::holds(&table[at..end], t, a)
+    cells::stands(&table[at..end], t, a)
 }
 
 // Whether the word is a contact word whose contact the table holds.
 fn held_word(table: &[u32], w: u32) -> bool
-    requires { ⌜ Passes (now table) ⌝ }
+    requires { ⌜ ValidTable (now table) ⌝ }
     ensures { λ r. ⌜ r ≡ heldWord (now (table .entry)) w ⌝ }
 {
     let n = words::animals_of(table[0]);
@@ -46,7 +47,7 @@ fn held_word(table: &[u32], w: u32) -> bool
 
 // Whether the word's contact is held and leaves x at or after tick a.
 pub(crate) fn goes_on(table: &[u32], w: u32, x: u32, a: u32) -> bool
-    requires { ⌜ Passes (now table) ⌝ }
+    requires { ⌜ ValidTable (now table) ⌝ }
     ensures { λ r. ⌜ r ≡ goesOn (now (table .entry)) x a w ⌝ }
 {
     if words::from_of(w) != x {

@@ -2,16 +2,16 @@
 mod held;
 
 ghost use mathlib.Core.Path.{_≡_};
-ghost use Rattle.rules.specs.Checks.{Passes};
+ghost use Rattle.rules.specs.Checks.{ValidTable};
 ghost use Rattle.rules.specs.Claims.{spells, claimedAnswer};
 ghost use Rattle.claims.specs.Following.{follows};
+use checks::Verdict;
 use rules::AskAnswer;
-use verdicts::Verdict;
 
 // Whether the words lead on from u at tick `first` to v by `last`, each a held contact that leaves where and when the one
 // before it has arrived.
 fn follows(table: &[u32], u: u32, v: u32, first: u32, last: u32, chain: &[u32]) -> bool
-    requires { ⌜ Passes (now table) ⌝ }
+    requires { ⌜ ValidTable (now table) ⌝ }
     ensures { λ r. ⌜ r ≡ follows (now (table .entry)) v last u first (now (chain .entry)) ⌝ }
 {
     let carry = words::carry_of(table[0]);
@@ -38,7 +38,7 @@ fn follows(table: &[u32], u: u32, v: u32, first: u32, last: u32, chain: &[u32]) 
 
 // Whether there are words and they form a journey of held contacts from u to v that fits the window.
 fn spells(table: &[u32], u: u32, v: u32, first: u32, last: u32, chain: &[u32]) -> bool
-    requires { ⌜ Passes (now table) ⌝ }
+    requires { ⌜ ValidTable (now table) ⌝ }
     ensures { λ r. ⌜ r ≡ spells (now (table .entry)) v last u first (now (chain .entry)) ⌝ }
 {
     if chain.len() == 0 {

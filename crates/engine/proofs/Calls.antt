@@ -19,11 +19,11 @@ use Rattle.rules.specs.declared.WriteAnswer.the-variants.{Written, Refused as W
 use Rattle.rules.specs.declared.ReadAnswer.the-variants.{Read, Refused as ReadRefused}
 use Rattle.rules.specs.Answers.{ensure, openAnswerOf, unless}
 use Rattle.rules.specs.Layout.{tableLength, tableWords, animals, ticks, carry, cellsOf}
-use Rattle.rules.specs.Checks.{isOpen, wellFormed, ensureTable, Passes}
+use Rattle.rules.specs.Checks.{isOpen, wellFormed, ensureTable, ValidTable}
 use Rattle.rules.specs.Logs.{heldContacts, logWords, writeRefusal, writeAnswer, writeLeaves}
 use Rattle.rules.specs.Opening.{Sizes, ensureSizes, openRefusal, noIntervals, openAnswer, openLeaves}
 use Rattle.rules.specs.Adding.{ensurePair, ensureTick, addRefusal, holds, cellsChanged, addedCells, addAnswer, addLeaves}
-use Rattle.rules.specs.Demand3.{engine, tableAfter}
+use Rattle.rules.specs.CallLists.{engine, tableAfter}
 use Rattle.rules.specs.Reading.{loggedContacts, different, readRefusal, readAnswer, readLeaves}
 use Rattle.rules.proofs.Judged.{ensure-iff, sizes-iff}
 use Rattle.rules.proofs.Sound.{opens-length}
@@ -31,10 +31,10 @@ use Rattle.tables.specs.declared.Opening.{Opening}
 use Rattle.tables.specs.declared.Made.{Made}
 use Rattle.tables.specs.declared.Made.the-variants.{Within, Beyond}
 use Rattle.tables.specs.Openings.{madeOf, made}
-use Rattle.verdicts.specs.declared.Verdict.{Verdict}
-use Rattle.verdicts.specs.declared.Verdict.the-variants.{Passed, Refused}
-use Rattle.verdicts.specs.Verdicts.{verdictOf}
-use Rattle.verdicts.proofs.Groups.{Group, table-group, pair-group, sizes-group, verdict-refused, verdict-passed}
+use Rattle.checks.specs.declared.Verdict.{Verdict}
+use Rattle.checks.specs.declared.Verdict.the-variants.{Passed, Refused}
+use Rattle.checks.specs.Verdicts.{verdictOf}
+use Rattle.checks.proofs.Groups.{Group, table-group, pair-group, sizes-group, verdict-refused, verdict-passed}
 
 -- ---- opening
 
@@ -142,7 +142,7 @@ module _ (T : List ℕ) (k : Contact) (v : Verdict) (p : v ≡ verdictOf (addRef
 -- ---- writing a log
 
 -- A table that passed 5 and 6 passes them.
-pub table-passed : (T : List ℕ) (v : Verdict) → v ≡ verdictOf (ensureTable T none) → v ≡ Passed → Passes T
+pub table-passed : (T : List ℕ) (v : Verdict) → v ≡ verdictOf (ensureTable T none) → v ≡ Passed → ValidTable T
 table-passed T v p q =
     let e = ensure-iff (isOpen T) NotOpen (ensure (wellFormed T) NotWellFormed none) .0 (verdict-passed (ensureTable T none) (sym p ∙ q)) in
     record { opens = e .0; formed = ensure-iff (wellFormed T) NotWellFormed none .0 (e .1) .0 }

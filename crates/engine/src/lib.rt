@@ -8,7 +8,8 @@ ghost use Rattle.rules.specs.Opening.{openAnswer, openLeaves};
 ghost use Rattle.rules.specs.Adding.{addRefusal, addAnswer, addLeaves};
 ghost use Rattle.rules.specs.Logs.{writeAnswer, writeLeaves};
 ghost use Rattle.rules.specs.Reading.{readAnswer, readLeaves};
-ghost use Rattle.verdicts.specs.Verdicts.{verdictOf};
+ghost use Rattle.checks.specs.Verdicts.{verdictOf};
+use checks::Verdict;
 use rules::AddAnswer;
 use rules::OpenAnswer;
 use rules::ReadAnswer;
@@ -16,7 +17,6 @@ use rules::Refusal;
 use rules::WriteAnswer;
 use tables::Made;
 use tables::Opening;
-use verdicts::Verdict;
 
 // Document 01's number of a refusal.
 pub fn number_of(refusal: Refusal) -> u32
@@ -82,14 +82,14 @@ pub fn add_contact(table: &mut [u32], u: u32, v: u32, t: u32) -> AddAnswer
 pub(crate) fn judge_add(table: &[u32], u: u32, v: u32, t: u32) -> Verdict
     ensures { λ r. ⌜ r ≡ verdictOf (addRefusal (now (table .entry)) (contact u v t)) ⌝ }
 {
-    let whole = verdicts::judge_table(table);
+    let whole = checks::judge_table(table);
     match whole {
         Verdict::Refused(r) => Verdict::Refused(r),
         Verdict::Passed => {
-            let pair = verdicts::judge_pair(table, u, v);
+            let pair = checks::judge_pair(table, u, v);
             match pair {
                 Verdict::Refused(r) => Verdict::Refused(r),
-                Verdict::Passed => verdicts::judge_tick(table, t),
+                Verdict::Passed => checks::judge_tick(table, t),
             }
         }
     }
@@ -100,7 +100,7 @@ pub fn write_log(table: &[u32], buffer: &mut [u32]) -> WriteAnswer
     ensures { λ r. ⌜ r ≡ writeAnswer (now (table .entry)) (now (buffer .entry)) ⌝ }
     ensures { λ _. ⌜ now (buffer .exit) ≡ writeLeaves (now (table .entry)) (now (buffer .entry)) ⌝ }
 {
-    let whole = verdicts::judge_table(table);
+    let whole = checks::judge_table(table);
     match whole {
         Verdict::Refused(r) => WriteAnswer::Refused(r),
         Verdict::Passed => {

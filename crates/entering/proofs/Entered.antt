@@ -1,5 +1,5 @@
 -- The words of a cell that an interval enters.
--- Assumes nothing.
+--
 use Prim.Native.Nat.{ℕ, zero, suc, _+_, _-_, _<_, _≤_}
 use mathlib.Core.Path.{_≡_, refl, sym, ap, ap₂, _∙_}
 use mathlib.Core.Logic.{⊎-elim}
@@ -15,8 +15,9 @@ use Rattle.journeys.proofs.Cover.{departure-path}
 use Rattle.journeys.proofs.Enter.{enter-members, enter-rising}
 use Rattle.words.specs.Layout.{get}
 use Rattle.words.specs.Words.{countWord, rowsField, intervalWord}
+use Rattle.rules.specs.Limits.{maxCellWords}
 use Rattle.rules.specs.Layout.{cellWords, cellOf}
-use Rattle.cells.specs.Stored.{Stored, departureOf, arrivalOf, frontBelow}
+use Rattle.cells.specs.Stored.{Stored, departureEnd, arrivalEnd, frontBelow}
 use Rattle.cells.proofs.Search.{departure-follows, front-length}
 use Rattle.cells.proofs.Lent.{count-is, count-fits}
 use Rattle.entering.specs.Rows.{unused, padded, spliced}
@@ -91,7 +92,7 @@ pub record Goes (xs : List ℕ) (d a n lo hi : ℕ) : Type 0 where
   pub lo-hi : lo ≤ hi
   pub hi-n : hi ≤ n
   pub n-len : n + 1 ≤ length xs
-  pub short : length xs ≤ 1025
+  pub short : length xs ≤ maxCellWords
   pub fits : lo + 1 + (n - hi) + 1 ≤ length xs
   pub count : length (enter (interval d a) (cellOf xs)) ≡ lo + 1 + (n - hi)
   pub is : enter (interval d a) (cellOf xs) ≡ spliced (cellOf xs) lo hi (interval d a)
@@ -110,13 +111,13 @@ room xs i S l m = rows-within (length xs - 1) (enter i (cellOf xs)) (enter-risin
 -- Where no interval lies inside [d, a], the searches for its place found where it goes.
 pub goes : (xs : List ℕ) (d a n lo hi : ℕ) → Stored xs → n ≡ get rowsField (getD xs 0 0) → 1 ≤ d → d < length xs
     → hasInside (interval d a) (cellOf xs) ≡ false
-    → lo ≡ frontBelow arrivalOf a (cellOf xs) → hi ≡ frontBelow departureOf (d + 1) (cellOf xs) → Goes xs d a n lo hi
+    → lo ≡ frontBelow arrivalEnd a (cellOf xs) → hi ≡ frontBelow departureEnd (d + 1) (cellOf xs) → Goes xs d a n lo hi
 goes xs d a n lo hi S en d₁ d₂ e el eh =
     let c : Cell = cellOf xs in
     let i : Interval = interval d a in
     let len : n ≡ length c = en ∙ count-is xs S in
-    let h₁ : lo ≤ hi = omega (arith, arrive-le i c i (S .rising) e, past-up departureOf departure-follows d c i (S .rising)) in
-    let h₂ : hi ≤ length c = omega (arith, front-length departureOf (d + 1) c) in
+    let h₁ : lo ≤ hi = omega (arith, arrive-le i c i (S .rising) e, past-up departureEnd departure-follows d c i (S .rising)) in
+    let h₂ : hi ≤ length c = omega (arith, front-length departureEnd (d + 1) c) in
     let j : enter i c ≡ spliced c lo hi i = rw (el, eh) (enter-spliced i c (S .rising) e) in
     let k : length (enter i c) ≡ lo + 1 + (n - hi) = ap length j ∙ spliced-length c lo hi i h₁ h₂ ∙ ap (λ (m : ℕ). lo + 1 + (m - hi)) (sym len) in
     record {

@@ -1,5 +1,5 @@
 -- What the moves of rows come to: loops that copy, and a new row in the place of others.
--- Assumes nothing.
+--
 use Prim.Native.Nat.{ℕ, _+_, _-_, _<_, _≤_}
 use mathlib.Core.Path.{_≡_, sym, ap, ap₂, _∙_}
 use mathlib.Core.List.{List, [], _∷_, _++_, append-assoc}

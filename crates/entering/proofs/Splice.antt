@@ -1,5 +1,5 @@
 -- Entering an interval that none lies inside: the intervals that contain it stand side by side, and it takes their place.
--- Assumes nothing.
+--
 use Prim.Native.Nat.{ℕ, suc, _+_, _-_, _≤_, _<_}
 use mathlib.Core.Path.{_≡_, refl, sym, ap, _∙_}
 use mathlib.Core.Logic.{_⊎_, inl, inr, ⊎-elim}
@@ -13,7 +13,7 @@ use Rattle.journeys.specs.Cell.{Cell, Before, Rising, hasInside, withoutContain
 use Rattle.journeys.proofs.Tests.{Outcome, holds, fails, le-outcome, lt-outcome, inside-outcome}
 use Rattle.journeys.proofs.Cover.{Covers, here, there, covers-find, member-covers, departure-path, arrival-path, hasInside-outcome}
 use Rattle.words.specs.Words.{intervalOf}
-use Rattle.cells.specs.Stored.{departureOf, arrivalOf, frontBelow}
+use Rattle.cells.specs.Stored.{departureEnd, arrivalEnd, frontBelow}
 use Rattle.entering.specs.Rows.{spliced}
 use Rattle.cells.proofs.Search.{departure-follows, arrival-follows, getD-member, front-length, front-le, front-before, front-at}
 use Rattle.entering.proofs.Front.{lt-or-ge, rising-at, front-behind, past-same, past-other, past-none}
@@ -42,7 +42,7 @@ without-later i (j ∷ c) u l = go (inside-outcome i j) (without-later i c (u .1
 -- Those that contain i go and i is put in order: i takes the place of the rows from the first that arrives at or after it to the last that departs
 -- at or before it.
 put-spliced : (i : Interval) (c : Cell) → Rising c → ¬ Covers i c
-    → putInOrder i (withoutContaining i c) ≡ spliced c (frontBelow arrivalOf (i .arrival) c) (frontBelow departureOf (i .departure + 1) c) i
+    → putInOrder i (withoutContaining i c) ≡ spliced c (frontBelow arrivalEnd (i .arrival) c) (frontBelow departureEnd (i .departure + 1) c) i
 unfolding withoutContaining putInOrder frontBelow
 put-spliced i [] u n = refl
 put-spliced i (j ∷ c) u n =
@@ -52,10 +52,10 @@ put-spliced i (j ∷ c) u n =
     kept = withoutContaining i c
 
     lo : ℕ
-    lo = frontBelow arrivalOf (i .arrival) c
+    lo = frontBelow arrivalEnd (i .arrival) c
 
     hi : ℕ
-    hi = frontBelow departureOf (i .departure + 1) c
+    hi = frontBelow departureEnd (i .departure + 1) c
 
     next : (d : Cell) → Before j d → i .departure < j .departure → DepartsBefore i d
     next [] h l = tt
@@ -78,7 +78,7 @@ put-spliced i (j ∷ c) u n =
         → putInOrder i kept ≡ spliced c lo hi i
         → putInOrder i (cond b kept (j ∷ kept)) ≡ spliced (j ∷ c) (cond x (suc lo) 0) (cond y (suc hi) 0) i
     go (holds h) (holds p) q r = absurd (omega arith)
-    go (holds h) (fails p) (holds q) r = r ∙ ap (λ (k : ℕ). spliced c k hi i) (front-behind arrivalOf arrival-follows (i .arrival) j c u p)
+    go (holds h) (fails p) (holds q) r = r ∙ ap (λ (k : ℕ). spliced c k hi i) (front-behind arrivalEnd arrival-follows (i .arrival) j c u p)
     go (holds h) (fails p) (fails q) r = absurd (omega arith)
     go (fails h) (holds p) (holds q) r = behind p (lt-outcome (i .departure) (j .departure)) r
     go (fails h) (holds p) (fails q) r = absurd (n (here (omega arith)))
@@ -93,7 +93,7 @@ failed (fails q) e = q
 
 -- Where no interval lies inside i, entering i puts it in the place of the rows that contain it.
 pub enter-spliced : (i : Interval) (c : Cell) → Rising c → hasInside i c ≡ false
-    → enter i c ≡ spliced c (frontBelow arrivalOf (i .arrival) c) (frontBelow departureOf (i .departure + 1) c) i
+    → enter i c ≡ spliced c (frontBelow arrivalEnd (i .arrival) c) (frontBelow departureEnd (i .departure + 1) c) i
 unfolding enter
 enter-spliced i c u e = rw e (put-spliced i c u (failed (hasInside-outcome i c) e))
 
@@ -127,48 +127,48 @@ module _ (i : Interval) (c : Cell) (z : Interval) where
       (m .0, m .1, omega (arith, r .2), omega (arith, r .2))
 
   -- Where every row departs before i, none lies inside it.
-  pub inside-none : length c ≤ frontBelow departureOf (i .departure) c → hasInside i c ≡ false
+  pub inside-none : length c ≤ frontBelow departureEnd (i .departure) c → hasInside i c ≡ false
   inside-none h = same-test (hasInside-outcome i c) none to (λ n s. s)
     where
       none : Outcome ⊥ (Unit {0}) false
       none = fails tt
 
       to : Covers i c → Unit {0} → ⊥
-      to v s = let r = covers-at v in omega (arith, r .1, r .2, front-before departureOf (i .departure) c (r .0) z (omega (arith, r .1)))
+      to v s = let r = covers-at v in omega (arith, r .1, r .2, front-before departureEnd (i .departure) c (r .0) z (omega (arith, r .1)))
 
   module _ (u : Rising c) where
     -- Else one lies inside it exactly when the first row that departs at or after it arrives by it.
-    pub inside-at : frontBelow departureOf (i .departure) c < length c
-        → hasInside i c ≡ leb (getD c (frontBelow departureOf (i .departure) c) z .arrival) (i .arrival)
+    pub inside-at : frontBelow departureEnd (i .departure) c < length c
+        → hasInside i c ≡ leb (getD c (frontBelow departureEnd (i .departure) c) z .arrival) (i .arrival)
     inside-at l = same-test (hasInside-outcome i c) (le-outcome (getD c k z .arrival) (i .arrival)) to of
       where
         k : ℕ
-        k = frontBelow departureOf (i .departure) c
+        k = frontBelow departureEnd (i .departure) c
 
         of : ¬ Covers i c → getD c k z .arrival ≤ i .arrival → ⊥
-        of n h = n (member-covers (getD-member c k z l) (front-at departureOf (i .departure) c z l, h))
+        of n h = n (member-covers (getD-member c k z l) (front-at departureEnd (i .departure) c z l, h))
 
         to : Covers i c → i .arrival < getD c k z .arrival → ⊥
         to v h =
             let r = covers-at v in
-            ⊎-elim (λ (q : r .0 < k). omega (arith, r .2, front-before departureOf (i .departure) c (r .0) z q))
+            ⊎-elim (λ (q : r .0 < k). omega (arith, r .2, front-before departureEnd (i .departure) c (r .0) z q))
             (λ (q : k ≤ r .0).
-            ⊎-elim (λ (p : k < r .0). omega (arith, r .3, rising-at arrivalOf arrival-follows c k (r .0) z u p (r .1)))
+            ⊎-elim (λ (p : k < r .0). omega (arith, r .3, rising-at arrivalEnd arrival-follows c k (r .0) z u p (r .1)))
             (λ (p : r .0 ≤ k). let e : r .0 ≡ k = omega arith in omega (arith, r .3, ap (λ (m : ℕ). getD c m z .arrival) e))
             (lt-or-ge k (r .0)))
             (lt-or-ge (r .0) k)
 
     -- Where none lies inside i, the rows that depart at or after it arrive after it.
-    pub arrive-le : hasInside i c ≡ false → frontBelow arrivalOf (i .arrival) c ≤ frontBelow departureOf (i .departure) c
-    arrive-le e = ⊎-elim later (λ l. omega (arith, front-length arrivalOf (i .arrival) c)) (lt-or-ge k (length c))
+    pub arrive-le : hasInside i c ≡ false → frontBelow arrivalEnd (i .arrival) c ≤ frontBelow departureEnd (i .departure) c
+    arrive-le e = ⊎-elim later (λ l. omega (arith, front-length arrivalEnd (i .arrival) c)) (lt-or-ge k (length c))
       where
         k : ℕ
-        k = frontBelow departureOf (i .departure) c
+        k = frontBelow departureEnd (i .departure) c
 
-        later : k < length c → frontBelow arrivalOf (i .arrival) c ≤ k
+        later : k < length c → frontBelow arrivalEnd (i .arrival) c ≤ k
         later l =
             let h : i .arrival < getD c k z .arrival = failed (le-outcome (getD c k z .arrival) (i .arrival)) (sym (inside-at l) ∙ e) in
-            front-le arrivalOf (i .arrival) c k z l (omega arith)
+            front-le arrivalEnd (i .arrival) c k z l (omega arith)
 
 -- ---- rows suffice
 
@@ -187,7 +187,7 @@ rows-within τ (i ∷ c) u f =
 
 -- ---- rows of words
 
-module _ (d : ℕ) (rows : List ℕ) (k : ℕ) (e : k ≡ frontBelow departureOf d (map intervalOf rows)) where
+module _ (d : ℕ) (rows : List ℕ) (k : ℕ) (e : k ≡ frontBelow departureEnd d (map intervalOf rows)) where
   -- Where every row departs before d, none lies inside [d, a].
   pub rows-inside-none : (a : ℕ) → length rows ≤ k → hasInside (interval d a) (map intervalOf rows) ≡ false
   rows-inside-none a l = inside-none (interval d a) (map intervalOf rows) (intervalOf 0) (omega (arith, length-map rows intervalOf))
@@ -201,21 +201,21 @@ module _ (d : ℕ) (rows : List ℕ) (k : ℕ) (e : k ≡ frontBelow departureOf
         ∙ ap (λ (j : Interval). leb (j .arrival) a) (List·getD-map intervalOf rows k 0)
 
     -- The departure of the first row that departs at or after d.
-    first-departs : getD (map intervalOf rows) (frontBelow departureOf d (map intervalOf rows)) (intervalOf 0) .departure
+    first-departs : getD (map intervalOf rows) (frontBelow departureEnd d (map intervalOf rows)) (intervalOf 0) .departure
         ≡ intervalOf (getD rows k 0) .departure
     first-departs = ap (λ (m : ℕ). getD (map intervalOf rows) m (intervalOf 0) .departure) (sym e) ∙ departure-path (List·getD-map intervalOf rows k 0)
 
     -- Where that row departs at d, the next is the first that departs after d.
-    pub rows-past-same : k < length rows → intervalOf (getD rows k 0) .departure ≡ d → k + 1 ≡ frontBelow departureOf (d + 1) (map intervalOf rows)
+    pub rows-past-same : k < length rows → intervalOf (getD rows k 0) .departure ≡ d → k + 1 ≡ frontBelow departureEnd (d + 1) (map intervalOf rows)
     rows-past-same l h =
         ap (λ (m : ℕ). m + 1) e
-        ∙ past-same departureOf departure-follows d (map intervalOf rows) (intervalOf 0) u (omega (arith, length-map rows intervalOf)) (first-departs ∙ h)
+        ∙ past-same departureEnd departure-follows d (map intervalOf rows) (intervalOf 0) u (omega (arith, length-map rows intervalOf)) (first-departs ∙ h)
 
     -- Else it is itself the first that departs after d.
-    pub rows-past-other : k < length rows → (intervalOf (getD rows k 0) .departure ≡ d → ⊥) → k ≡ frontBelow departureOf (d + 1) (map intervalOf rows)
+    pub rows-past-other : k < length rows → (intervalOf (getD rows k 0) .departure ≡ d → ⊥) → k ≡ frontBelow departureEnd (d + 1) (map intervalOf rows)
     rows-past-other l n =
-        e ∙ past-other departureOf departure-follows d (map intervalOf rows) (intervalOf 0) u (omega (arith, length-map rows intervalOf)) (λ h. n (sym first-departs ∙ h))
+        e ∙ past-other departureEnd departure-follows d (map intervalOf rows) (intervalOf 0) u (omega (arith, length-map rows intervalOf)) (λ h. n (sym first-departs ∙ h))
 
     -- Where no row departs at or after d, none departs after d.
-    pub rows-past-none : length rows ≤ k → k ≡ frontBelow departureOf (d + 1) (map intervalOf rows)
-    rows-past-none l = e ∙ past-none departureOf departure-follows d (map intervalOf rows) (intervalOf 0) u (omega (arith, length-map rows intervalOf))
+    pub rows-past-none : length rows ≤ k → k ≡ frontBelow departureEnd (d + 1) (map intervalOf rows)
+    rows-past-none l = e ∙ past-none departureEnd departure-follows d (map intervalOf rows) (intervalOf 0) u (omega (arith, length-map rows intervalOf))

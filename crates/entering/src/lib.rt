@@ -8,13 +8,14 @@ ghost use Prim.Native.Nat.{_-_, _<_, _≤_};
 ghost use lib.ListN.{length};
 ghost use Rattle.journeys.specs.Journey.{interval};
 ghost use Rattle.journeys.specs.Cell.{hasInside, enter};
+ghost use Rattle.rules.specs.Limits.{maxArrival};
 ghost use Rattle.rules.specs.Layout.{cellWords, cellOf};
 ghost use Rattle.cells.specs.Stored.{Stored};
 
 // [d, a] enters the cell; the answer says whether the cell changed.
 pub fn enters(cell: &mut [u32], d: u32, a: u32) -> bool
     requires { ⌜ Stored (now cell) ⌝ }
-    requires { ⌜ (1 ≤ d) × (d < length (now cell)) × (a < 2048) ⌝ }
+    requires { ⌜ (1 ≤ d) × (d < length (now cell)) × (a ≤ maxArrival) ⌝ }
     ensures { λ r. ⌜ r ≡ not (hasInside (interval d a) (cellOf (now (cell .entry)))) ⌝ }
     ensures { λ _. ⌜ now (cell .exit) ≡ cellWords (length (now (cell .entry)) - 1) (enter (interval d a) (cellOf (now (cell .entry)))) ⌝ }
 {

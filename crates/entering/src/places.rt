@@ -7,11 +7,11 @@ ghost use lib.ListN.{length};
 ghost use Rattle.journeys.specs.Journey.{interval};
 ghost use Rattle.journeys.specs.Cell.{Rising, hasInside};
 ghost use Rattle.words.specs.Words.{intervalOf};
-ghost use Rattle.cells.specs.Stored.{departureOf, arrivalOf, frontBelow};
+ghost use Rattle.cells.specs.Stored.{departureEnd, arrivalEnd, frontBelow};
 
 // Whether a row lies inside [d, a] or equals it; i is the first row that departs at or after d.
 fn has_inside(rows: &[u32], i: usize, d: u32, a: u32) -> bool
-    requires { ⌜ i ≡ frontBelow departureOf d (map intervalOf (now rows)) ⌝ }
+    requires { ⌜ i ≡ frontBelow departureEnd d (map intervalOf (now rows)) ⌝ }
     requires { ⌜ Rising (map intervalOf (now rows)) ⌝ }
     ensures { λ r. ⌜ r ≡ hasInside (interval d a) (map intervalOf (now (rows .entry))) ⌝ }
 {
@@ -23,9 +23,9 @@ fn has_inside(rows: &[u32], i: usize, d: u32, a: u32) -> bool
 
 // The first row that arrives at or after a; those from i on do.
 fn first_arriving(rows: &[u32], i: usize, a: u32) -> usize
-    requires { ⌜ (frontBelow arrivalOf a (map intervalOf (now rows)) ≤ i) × (i ≤ length (now rows)) ⌝ }
+    requires { ⌜ (frontBelow arrivalEnd a (map intervalOf (now rows)) ≤ i) × (i ≤ length (now rows)) ⌝ }
     requires { ⌜ Rising (map intervalOf (now rows)) ⌝ }
-    ensures { λ r. ⌜ r ≡ frontBelow arrivalOf a (map intervalOf (now (rows .entry))) ⌝ }
+    ensures { λ r. ⌜ r ≡ frontBelow arrivalEnd a (map intervalOf (now (rows .entry))) ⌝ }
 {
     let mut lo = i;
     while 0 < lo {
@@ -39,9 +39,9 @@ fn first_arriving(rows: &[u32], i: usize, a: u32) -> usize
 
 // The first row that departs after d; i is the first that departs at or after d.
 fn first_past(rows: &[u32], i: usize, d: u32) -> usize
-    requires { ⌜ i ≡ frontBelow departureOf d (map intervalOf (now rows)) ⌝ }
+    requires { ⌜ i ≡ frontBelow departureEnd d (map intervalOf (now rows)) ⌝ }
     requires { ⌜ Rising (map intervalOf (now rows)) ⌝ }
-    ensures { λ r. ⌜ r ≡ frontBelow departureOf (d + 1) (map intervalOf (now (rows .entry))) ⌝ }
+    ensures { λ r. ⌜ r ≡ frontBelow departureEnd (d + 1) (map intervalOf (now (rows .entry))) ⌝ }
 {
     if i < rows.len() {
         if words::departure_of(rows[i]) == d {
@@ -62,9 +62,9 @@ pub(crate) struct Place {
 pub(crate) fn find(rows: &[u32], d: u32, a: u32) -> Place
     requires { ⌜ Rising (map intervalOf (now rows)) ⌝ }
     ensures { λ p. ⌜ p .met ≡ hasInside (interval d a) (map intervalOf (now (rows .entry))) ⌝ }
-    ensures { λ p. ⌜ (p .met ≡ false → (p .lo ≡ frontBelow arrivalOf a (map intervalOf (now (rows .entry)))) × (p .hi ≡ frontBelow departureOf (d + 1) (map intervalOf (now (rows .entry))))) ⌝ }
+    ensures { λ p. ⌜ (p .met ≡ false → (p .lo ≡ frontBelow arrivalEnd a (map intervalOf (now (rows .entry)))) × (p .hi ≡ frontBelow departureEnd (d + 1) (map intervalOf (now (rows .entry))))) ⌝ }
 {
-    let i = cells::first_from(rows, d);
+    let i = cells::lower_bound_departure(rows, d);
     if has_inside(rows, i, d, a) {
         return Place {
             met: true,

@@ -9,8 +9,9 @@ use native.Mathlib.Omega.{arith}
 use lib.ListN.{length, take, drop}
 use Rattle.journeys.specs.Journey.{Interval, interval}
 use Rattle.journeys.specs.Cell.{Cell, Limits, latestDeparture, earliestArrival}
+use Rattle.rules.specs.Limits.{maxAnimals, maxArrival, maxCells}
 use Rattle.rules.specs.Layout.{animals, ticks, carry, cellAt, cellOf, cellsOf}
-use Rattle.rules.specs.Checks.{Passes}
+use Rattle.rules.specs.Checks.{ValidTable}
 use Rattle.rules.specs.Adding.{stands}
 use Rattle.rules.proofs.Sound.{table-sizes, opens-length, passes-good}
 use Rattle.parts.proofs.Walk.{part-inside}
@@ -23,13 +24,13 @@ use Rattle.pair_cells.specs.Lent.{Lent}
 
 -- Cell (u, v) of n animals and s words begins and ends inside the table, and is lent as it stands.
 pub record Place (T : List ℕ) (u v n s : ℕ) : Type 0 where
-  pub row : u * n ≤ 65536
-  pub column : v < 256
+  pub row : u * n ≤ maxCells
+  pub column : v < maxAnimals
   pub inside : 1 + (u * n + v) * s + s ≤ length T
   pub lent : take (1 + (u * n + v) * s + s - (1 + (u * n + v) * s)) (drop (1 + (u * n + v) * s) T) ≡ cellAt (animals T) (ticks T) T u v
   pub stored : Stored (take (1 + (u * n + v) * s + s - (1 + (u * n + v) * s)) (drop (1 + (u * n + v) * s) T))
 
-module _ (T : List ℕ) (p : Passes T) (u v : ℕ) (h : u < animals T) (k : v < animals T) where
+module _ (T : List ℕ) (p : ValidTable T) (u v : ℕ) (h : u < animals T) (k : v < animals T) where
   -- The place by the table's own numbers.
   table-place : Place T u v (animals T) (ticks T + 1)
   unfolding cellAt
@@ -39,7 +40,7 @@ module _ (T : List ℕ) (p : Passes T) (u v : ℕ) (h : u < animals T) (k : v < 
       let r : a + (ticks T + 1) - a ≡ ticks T + 1 = omega arith in
       let e : take (a + (ticks T + 1) - a) (drop a T) ≡ cellAt (animals T) (ticks T) T u v = ap (λ (i : ℕ). take i (drop a T)) r in
       let w : u * animals T + animals T ≤ animals T * animals T = part-inside u (animals T) (animals T) h in
-      let b : u ≤ 256 = omega (arith, z .n-high) in
+      let b : u ≤ maxAnimals = omega (arith, z .n-high) in
       record {
         row = mul-le-mul b (z .n-high);
         column = omega (arith, z .n-high);
@@ -59,16 +60,16 @@ module _ (T : List ℕ) (p : Passes T) (u v : ℕ) (h : u < animals T) (k : v < 
   limits = passes-good T p .cells u v h k .limits
 
   -- The earliest arrival, if there is one, is at least 1.
-  pub earliest-from-one : (t : ℕ) → Tick 2048 (earliestArrival (cellsOf T u v) t)
+  pub earliest-from-one : (t : ℕ) → Tick (maxArrival + 1) (earliestArrival (cellsOf T u v) t)
   earliest-from-one t =
       let z = table-sizes T in
-      earliest-tick 2048 t (cellsOf T u v) (λ i q. let l = limits i q in omega (arith, l .departs, l .carried, l .arrives, z .τ-high, z .δ-high))
+      earliest-tick (maxArrival + 1) t (cellsOf T u v) (λ i q. let l = limits i q in omega (arith, l .departs, l .carried, l .arrives, z .τ-high, z .δ-high))
 
   -- The latest departure, if there is one, is at least 1.
-  pub latest-from-one : (t : ℕ) → Tick 2048 (latestDeparture (cellsOf T u v) t)
+  pub latest-from-one : (t : ℕ) → Tick (maxArrival + 1) (latestDeparture (cellsOf T u v) t)
   latest-from-one t =
       let z = table-sizes T in
-      latest-tick 2048 t (cellsOf T u v) (λ i q. let l = limits i q in omega (arith, l .departs, l .in-time, z .τ-high))
+      latest-tick (maxArrival + 1) t (cellsOf T u v) (λ i q. let l = limits i q in omega (arith, l .departs, l .in-time, z .τ-high))
 
 -- The earliest arrival in the lent words is that of the cell.
 pub arrival-read : (T : List ℕ) (u v t r : ℕ) (lent : List ℕ) → lent ≡ cellAt (animals T) (ticks T) T u v → r ≡ orZero (earliestArrival (cellOf lent) t) → r ≡ orZero (earliestArrival (cellsOf T u v) t)
@@ -81,7 +82,7 @@ unfolding cellsOf
 departure-read T u v t r lent e f = f ∙ ap (λ (l : List ℕ). orZero (latestDeparture (cellOf l) t)) e
 
 -- A tick written as 0 is none.
-pub tick-none : (o : Option ℕ) (r : ℕ) → Tick 2048 o → r ≡ orZero o → r ≡ 0 → o ≡ none
+pub tick-none : (o : Option ℕ) (r : ℕ) → Tick (maxArrival + 1) o → r ≡ orZero o → r ≡ 0 → o ≡ none
 tick-none none r t e z = refl
 tick-none (some a) r t e z = absurd (omega (arith, t .0))
 
@@ -93,7 +94,7 @@ tick-some (some a) r e z = ap some (sym e)
 -- ---- the cell lent
 
 -- Cell (u, v) by the numbers read off the table.
-pub lent-of : (T : List ℕ) → Passes T → (u v : ℕ) → u < animals T → v < animals T → (n s : ℕ) → n ≡ animals T → s ≡ ticks T + 1
+pub lent-of : (T : List ℕ) → ValidTable T → (u v : ℕ) → u < animals T → v < animals T → (n s : ℕ) → n ≡ animals T → s ≡ ticks T + 1
     → Lent T u v (1 + (u * n + v) * s) (1 + (u * n + v) * s + s)
 lent-of T p u v h k n s e f =
     let q = place T p u v h k n s e f in

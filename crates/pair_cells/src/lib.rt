@@ -4,7 +4,7 @@ ghost use Prim.Native.Nat.{_<_};
 ghost use Rattle.journeys.specs.Journey.{interval};
 ghost use Rattle.journeys.specs.Cell.{latestDeparture, earliestArrival};
 ghost use Rattle.rules.specs.Layout.{animals, cellsOf};
-ghost use Rattle.rules.specs.Checks.{Passes};
+ghost use Rattle.rules.specs.Checks.{ValidTable};
 ghost use Rattle.rules.specs.Adding.{stands};
 ghost use Rattle.cells.specs.Stored.{orZero};
 ghost use Rattle.pair_cells.specs.Lent.{Lent};
@@ -17,7 +17,7 @@ struct Span {
 
 // Where cell (u, v) lies.
 fn span_of(table: &[u32], u: u32, v: u32) -> Span
-    requires { ⌜ Passes (now table) ⌝ }
+    requires { ⌜ ValidTable (now table) ⌝ }
     requires { ⌜ (u < animals (now table)) × (v < animals (now table)) ⌝ }
     ensures { λ r. ⌜ Lent (now (table .entry)) u v (r .start) (r .stop) ⌝ }
 {
@@ -33,7 +33,7 @@ fn span_of(table: &[u32], u: u32, v: u32) -> Span
 
 // The earliest arrival in cell (u, v) with departure at least `first`, or 0 where there is none.
 pub fn first_arrival(table: &[u32], u: u32, v: u32, first: u32) -> u32
-    requires { ⌜ Passes (now table) ⌝ }
+    requires { ⌜ ValidTable (now table) ⌝ }
     requires { ⌜ (u < animals (now table)) × (v < animals (now table)) ⌝ }
     ensures { λ r. ⌜ r ≡ orZero (earliestArrival (cellsOf (now (table .entry)) u v) first) ⌝ }
 {
@@ -45,7 +45,7 @@ pub fn first_arrival(table: &[u32], u: u32, v: u32, first: u32) -> u32
 
 // The latest departure in cell (u, v) with arrival at most `last`, or 0 where there is none.
 pub fn last_departure(table: &[u32], u: u32, v: u32, last: u32) -> u32
-    requires { ⌜ Passes (now table) ⌝ }
+    requires { ⌜ ValidTable (now table) ⌝ }
     requires { ⌜ (u < animals (now table)) × (v < animals (now table)) ⌝ }
     ensures { λ r. ⌜ r ≡ orZero (latestDeparture (cellsOf (now (table .entry)) u v) last) ⌝ }
 {
@@ -57,12 +57,12 @@ pub fn last_departure(table: &[u32], u: u32, v: u32, last: u32) -> u32
 
 // Whether [d, a] stands in cell (u, v).
 pub fn stands(table: &[u32], u: u32, v: u32, d: u32, a: u32) -> bool
-    requires { ⌜ Passes (now table) ⌝ }
+    requires { ⌜ ValidTable (now table) ⌝ }
     requires { ⌜ (u < animals (now table)) × (v < animals (now table)) ⌝ }
     ensures { λ r. ⌜ r ≡ stands (interval d a) (cellsOf (now (table .entry)) u v) ⌝ }
 {
     let cell = span_of(table, u, v);
     let start = cell.start;
     let stop = cell.stop;
-    cells::holds(&table[start..stop], d, a)
+    cells::stands(&table[start..stop], d, a)
 }

@@ -13,13 +13,13 @@ use Rattle.rules.specs.declared.RecordAnswer.{RecordAnswer}
 use Rattle.rules.specs.declared.RecordAnswer.the-variants.{Refused as RecordRefused}
 use Rattle.rules.specs.declared.ListAnswer.the-variants.{Answered, Refused as ListRefused}
 use Rattle.rules.specs.Answers.{numberOf, unless}
-use Rattle.rules.specs.Checks.{Passes, ensureTable}
+use Rattle.rules.specs.Checks.{ValidTable, ensureTable}
 use Rattle.rules.specs.Questions.{reachAnswer}
 use Rattle.rules.specs.QuestionList.{recordAnswerOf, asked, listRefusal, listAnswer, listLeaves}
-use Rattle.verdicts.specs.declared.Verdict.{Verdict}
-use Rattle.verdicts.specs.declared.Verdict.the-variants.{Passed, Refused}
-use Rattle.verdicts.specs.Verdicts.{verdictOf}
-use Rattle.verdicts.proofs.Groups.{verdict-refused, verdict-passed, table-passed}
+use Rattle.checks.specs.declared.Verdict.{Verdict}
+use Rattle.checks.specs.declared.Verdict.the-variants.{Passed, Refused}
+use Rattle.checks.specs.Verdicts.{verdictOf}
+use Rattle.checks.proofs.Groups.{verdict-refused, verdict-passed, table-passed}
 use Rattle.question_lists.specs.Plans.{planFor}
 
 -- ---- one record
@@ -57,7 +57,7 @@ count-within T n = go (listRefusal T)
     go (some r) = omega arith
 
 -- Where a record is answered, the table passed 5 and 6.
-pub count-passes : (T : List ℕ) (n i : ℕ) → i < planFor T n .count → Passes T
+pub count-passes : (T : List ℕ) (n i : ℕ) → i < planFor T n .count → ValidTable T
 unfolding planFor
 count-passes T n i h = table-passed T (verdictOf (listRefusal T)) refl (ap verdictOf (go (listRefusal T) h))
   where

@@ -1,14 +1,14 @@
 // Lists of question records, each answered in its own record. The table is checked once for the whole list.
 ghost use mathlib.Core.Path.{_≡_};
 ghost use mathlib.Core.List.{[], _∷_};
-ghost use Rattle.rules.specs.Checks.{Passes};
+ghost use Rattle.rules.specs.Checks.{ValidTable};
 ghost use Rattle.rules.specs.QuestionList.{recordAnswerOf, asked, listAnswer, listLeaves};
 ghost use Rattle.question_lists.specs.Plans.{planFor};
+use checks::Verdict;
 use rules::AskAnswer;
 use rules::ListAnswer;
 use rules::Question;
 use rules::RecordAnswer;
-use verdicts::Verdict;
 
 // How many records of a list are answered, none where the table is refused, and what the list answers.
 pub struct Plan {
@@ -32,7 +32,7 @@ fn record_answer(reply: AskAnswer) -> RecordAnswer
 
 // One record filled as a single reach would answer, on a table that passed 5 and 6.
 pub fn asked(table: &[u32], q: Question) -> Question
-    requires { ⌜ Passes (now table) ⌝ }
+    requires { ⌜ ValidTable (now table) ⌝ }
     ensures { λ r. ⌜ r ≡ asked (now (table .entry)) q ⌝ }
 {
     let reply = questions::reach_checked(table, q.from, q.to, q.first, q.last);
@@ -50,7 +50,7 @@ pub fn asked(table: &[u32], q: Question) -> Question
 pub fn plan_for(table: &[u32], n: usize) -> Plan
     ensures { λ r. ⌜ r ≡ planFor (now (table .entry)) n ⌝ }
 {
-    let whole = verdicts::judge_table(table);
+    let whole = checks::judge_table(table);
     match whole {
         Verdict::Refused(r) => Plan {
             count: 0,

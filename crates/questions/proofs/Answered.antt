@@ -16,35 +16,35 @@ use Rattle.rules.specs.declared.SetAnswer.the-variants.{Found, Refused as SetRe
 use Rattle.rules.specs.Answers.{ensure}
 use Rattle.rules.specs.Folds.{countBelow}
 use Rattle.rules.specs.Layout.{animals, cellsOf}
-use Rattle.rules.specs.Checks.{isOpen, wellFormed, Passes, ensureTable}
+use Rattle.rules.specs.Checks.{isOpen, wellFormed, ValidTable, ensureTable}
 use Rattle.rules.specs.Adding.{ensurePair}
 use Rattle.rules.specs.Questions.{ensureWindow, ensureMoment, ensureAnimal, reaches, reachRefusal, reachAnswer, momentRefusal, earliestAnswer, latestAnswer, connects, connectedRefusal, connectedAnswer, isReached, setWords, reachedRefusal, reachedAnswer, reachedWords, reachedCount}
 use Rattle.rules.proofs.Folds.{and-left, and-right}
 use Rattle.rules.proofs.Judged.{ensure-iff}
 use Rattle.cells.specs.Stored.{orZero}
-use Rattle.verdicts.specs.declared.Verdict.{Verdict}
-use Rattle.verdicts.specs.declared.Verdict.the-variants.{Passed, Refused}
-use Rattle.verdicts.specs.Verdicts.{verdictOf}
-use Rattle.verdicts.proofs.Groups.{table-group, verdict-refused, verdict-passed}
+use Rattle.checks.specs.declared.Verdict.{Verdict}
+use Rattle.checks.specs.declared.Verdict.the-variants.{Passed, Refused}
+use Rattle.checks.specs.Verdicts.{verdictOf}
+use Rattle.checks.proofs.Groups.{table-group, verdict-refused, verdict-passed}
 use Rattle.pair_cells.proofs.Read.{tick-none, tick-some, earliest-from-one, latest-from-one}
 
 -- ---- what the checks say
 
 -- The table passed its checks, and the two are animals of it.
 pub record Accepted (T : List ℕ) (u v : ℕ) : Type 0 where
-  pub passes : Passes T
+  pub passes : ValidTable T
   pub from-below : u < animals T
   pub to-below : v < animals T
 
 -- Where nothing is refused, the first two checks passed.
-pub passes-of : (T : List ℕ) (o : Option Refusal) → ensureTable T o ≡ none → Passes T × (o ≡ none)
+pub passes-of : (T : List ℕ) (o : Option Refusal) → ensureTable T o ≡ none → ValidTable T × (o ≡ none)
 passes-of T o e =
     let a = ensure-iff (isOpen T) NotOpen (ensure (wellFormed T) NotWellFormed o) .0 e in
     let b = ensure-iff (wellFormed T) NotWellFormed o .0 (a .1) in
     (record { opens = a .0; formed = b .0 }, b .1)
 
 -- On a table that passed the first two checks, the verdict is that of the checks behind them.
-pub behind-table : (T : List ℕ) → Passes T → (o : Option Refusal) (w : Verdict) → w ≡ verdictOf o → w ≡ verdictOf (ensureTable T o)
+pub behind-table : (T : List ℕ) → ValidTable T → (o : Option Refusal) (w : Verdict) → w ≡ verdictOf o → w ≡ verdictOf (ensureTable T o)
 behind-table T p o w e = rw (p .opens, p .formed) e
 
 -- Where nothing is refused behind the checks of a pair, both are animals of a table that passed.
@@ -155,7 +155,7 @@ module _ (T : List ℕ) (first last : ℕ) (w : Verdict) (p : w ≡ verdictOf (c
     connected-none = verdict-passed (connectedRefusal T first last) (sym p ∙ q)
 
     -- The table passed its checks.
-    pub connected-accepted : Passes T
+    pub connected-accepted : ValidTable T
     unfolding connectedRefusal
     connected-accepted = passes-of T (ensureWindow T first last none) connected-none .0
 
@@ -186,7 +186,7 @@ module _ (T : List ℕ) (u first last : ℕ) (w : Verdict) (p : w ≡ verdictOf 
     reached-none = verdict-passed (reachedRefusal T u first last) (sym p ∙ q)
 
     -- The table passed its checks, and u is an animal of it.
-    pub reached-accepted : Passes T × (u < animals T)
+    pub reached-accepted : ValidTable T × (u < animals T)
     unfolding reachedRefusal
     reached-accepted =
         let t = passes-of T (ensureAnimal T u (ensureWindow T first last none)) reached-none in

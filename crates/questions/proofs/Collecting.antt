@@ -12,6 +12,7 @@ use lib.Pow.{pow-pos, pow-mono, shl-exact}
 use lib.Seq.{getD-set-same, getD-set-other, ext-getD}
 use borrow.Author.Tests.{lt-ltb, le-ltb, eq-eqb, ne-eqb}
 use Rattle.journeys.proofs.Tests.{Outcome, holds, fails, lt-outcome, eq-outcome}
+use Rattle.rules.specs.Limits.{maxAnimals}
 use Rattle.rules.specs.Folds.{sumBelow, countBelow}
 use Rattle.rules.specs.Layout.{animals}
 use Rattle.rules.specs.Questions.{reaches, isReached, setWord, setWords}
@@ -166,12 +167,12 @@ module _ {p : ℕ → Bool} {i : ℕ} {ws : List ℕ} {c : ℕ} (w : Collected p
       }
 
   -- There is room for one animal more.
-  pub collected-room : i < 256 → (i < 256) × (getD ws (i / 32) 0 < 2 ^ (i % 32)) × (c < 256)
+  pub collected-room : i < maxAnimals → (i < maxAnimals) × (getD ws (i / 32) 0 < 2 ^ (i % 32)) × (c < maxAnimals)
   collected-room h =
       (h, subst (λ (x : ℕ). x < 2 ^ (i % 32)) (sym (w .words (i / 32) (omega arith))) (word-low p i), omega (arith, w .counted, count-most p i))
 
   -- An animal that passes is one more.
-  pub collected-new : (xs : List ℕ) (d : ℕ) → i < 256 → p i ≡ true → xs ≡ set ws (i / 32) (getD ws (i / 32) 0 + 2 ^ (i % 32)) → d ≡ c + 1 → Collected p (i + 1) xs d
+  pub collected-new : (xs : List ℕ) (d : ℕ) → i < maxAnimals → p i ≡ true → xs ≡ set ws (i / 32) (getD ws (i / 32) 0 + 2 ^ (i % 32)) → d ≡ c + 1 → Collected p (i + 1) xs d
   unfolding countBelow
   collected-new xs d h t e f =
       record {

@@ -11,7 +11,7 @@ use Rattle.journeys.specs.Cell.{Cell, earliestArrival, hasInside}
 use Rattle.journeys.proofs.Tests.{Outcome, holds, fails, le-outcome}
 use Rattle.journeys.proofs.Cover.{Covers, earliest-iff, hasInside-outcome}
 use Rattle.rules.specs.Layout.{animals, cellsOf}
-use Rattle.rules.specs.Checks.{Passes}
+use Rattle.rules.specs.Checks.{ValidTable}
 use Rattle.rules.specs.Questions.{reaches}
 use Rattle.cells.specs.Stored.{orZero}
 use Rattle.pair_cells.proofs.Read.{earliest-from-one, tick-none, tick-some}
@@ -43,7 +43,7 @@ window-some c first last r e = go (hasInside-outcome (interval first last) c) (l
     go (fails n) (holds h) = absurd (n (high h))
     go (fails n) (fails h) = refl
 
-module _ (T : List ℕ) (p : Passes T) (u v : ℕ) (h : u < animals T) (k : v < animals T) (first last r : ℕ) (e : r ≡ orZero (earliestArrival (cellsOf T u v) first)) where
+module _ (T : List ℕ) (p : ValidTable T) (u v : ℕ) (h : u < animals T) (k : v < animals T) (first last r : ℕ) (e : r ≡ orZero (earliestArrival (cellsOf T u v) first)) where
   -- No arrival: not reached.
   pub reaches-none : r ≡ 0 → false ≡ reaches T u v first last
   unfolding reaches

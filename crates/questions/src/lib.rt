@@ -7,17 +7,17 @@ mod walks;
 ghost use mathlib.Core.Path.{_≡_};
 ghost use Prim.Native.Nat.{_<_};
 ghost use Rattle.rules.specs.Layout.{animals};
-ghost use Rattle.rules.specs.Checks.{Passes};
+ghost use Rattle.rules.specs.Checks.{ValidTable};
 ghost use Rattle.rules.specs.Questions.{reaches, reachAnswer, earliestAnswer, latestAnswer, connectedAnswer, reachedAnswer, reachedWords, reachedCount};
+use checks::Verdict;
 use rules::AskAnswer;
 use rules::ReachedAnswer;
 use rules::SetAnswer;
 use rules::TickAnswer;
-use verdicts::Verdict;
 
 // Whether a stored interval of the pair fits the window, on a table that passed its checks.
 pub fn reaches(table: &[u32], u: u32, v: u32, first: u32, last: u32) -> bool
-    requires { ⌜ Passes (now table) ⌝ }
+    requires { ⌜ ValidTable (now table) ⌝ }
     requires { ⌜ (u < animals (now table)) × (v < animals (now table)) ⌝ }
     ensures { λ r. ⌜ r ≡ reaches (now (table .entry)) u v first last ⌝ }
 {
@@ -30,7 +30,7 @@ pub fn reaches(table: &[u32], u: u32, v: u32, first: u32, last: u32) -> bool
 
 // Whether v can have been reached from u in the window, on a table that passed 5 and 6. Refuses with 7, 8, 9.
 pub fn reach_checked(table: &[u32], u: u32, v: u32, first: u32, last: u32) -> AskAnswer
-    requires { ⌜ Passes (now table) ⌝ }
+    requires { ⌜ ValidTable (now table) ⌝ }
     ensures { λ r. ⌜ r ≡ reachAnswer (now (table .entry)) u v first last ⌝ }
 {
     let verdict = judged::judge_reach_checked(table, u, v, first, last);
@@ -49,7 +49,7 @@ pub fn reach_checked(table: &[u32], u: u32, v: u32, first: u32, last: u32) -> As
 pub fn reach(table: &[u32], u: u32, v: u32, first: u32, last: u32) -> AskAnswer
     ensures { λ r. ⌜ r ≡ reachAnswer (now (table .entry)) u v first last ⌝ }
 {
-    let whole = verdicts::judge_table(table);
+    let whole = checks::judge_table(table);
     match whole {
         Verdict::Refused(r) => AskAnswer::Refused(r),
         Verdict::Passed => reach_checked(table, u, v, first, last),

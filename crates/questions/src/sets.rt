@@ -2,9 +2,10 @@
 ghost use mathlib.Core.Path.{_≡_};
 ghost use Prim.Native.Nat.{_+_, _/_, _%_, _^_, _<_};
 ghost use lib.ListN.{getD, set, replicate};
+ghost use Rattle.rules.specs.Limits.{maxAnimals};
 ghost use Rattle.rules.specs.Folds.{countBelow};
 ghost use Rattle.rules.specs.Layout.{animals};
-ghost use Rattle.rules.specs.Checks.{Passes};
+ghost use Rattle.rules.specs.Checks.{ValidTable};
 ghost use Rattle.rules.specs.Questions.{isReached, setWords};
 ghost use Rattle.questions.specs.Collected.{Collected};
 use rules::AnimalSet;
@@ -22,7 +23,7 @@ pub(crate) fn empty() -> AnimalSet
 
 // The set with animal i, whose bit is above those of its word.
 fn with_animal(before: AnimalSet, i: u32) -> AnimalSet
-    requires { ⌜ (i < 256) × (getD (before .words) (i / 32) 0 < 2 ^ (i % 32)) × (before .count < 256) ⌝ }
+    requires { ⌜ (i < maxAnimals) × (getD (before .words) (i / 32) 0 < 2 ^ (i % 32)) × (before .count < maxAnimals) ⌝ }
     ensures { λ r. ⌜ r .words ≡ set (before .words) (i / 32) (getD (before .words) (i / 32) 0 + 2 ^ (i % 32)) ⌝ }
     ensures { λ r. ⌜ r .count ≡ before .count + 1 ⌝ }
 {
@@ -45,7 +46,7 @@ fn with_reached(
     first: u32,
     last: u32,
 ) -> AnimalSet
-    requires { ⌜ Passes (now table) ⌝ }
+    requires { ⌜ ValidTable (now table) ⌝ }
     requires { ⌜ (u < animals (now table)) × (i < animals (now table)) ⌝ }
     requires { ⌜ Collected (isReached (now table) u first last) i (before .words) (before .count) ⌝ }
     ensures { λ r. ⌜ Collected (isReached (now (table .entry)) u first last) (i + 1) (r .words) (r .count) ⌝ }
@@ -61,7 +62,7 @@ fn with_reached(
 
 // The set of the animals reached from u in the window.
 pub(crate) fn collect(table: &[u32], u: u32, first: u32, last: u32) -> AnimalSet
-    requires { ⌜ Passes (now table) ⌝ }
+    requires { ⌜ ValidTable (now table) ⌝ }
     requires { ⌜ u < animals (now table) ⌝ }
     ensures { λ r. ⌜ r .words ≡ setWords (now (table .entry)) u first last ⌝ }
     ensures { λ r. ⌜ r .count ≡ countBelow (isReached (now (table .entry)) u first last) (animals (now (table .entry))) ⌝ }

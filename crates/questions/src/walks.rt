@@ -2,13 +2,13 @@
 ghost use mathlib.Core.Path.{_≡_};
 ghost use Prim.Native.Nat.{_<_};
 ghost use Rattle.rules.specs.Layout.{animals};
-ghost use Rattle.rules.specs.Checks.{Passes};
+ghost use Rattle.rules.specs.Checks.{ValidTable};
 ghost use Rattle.rules.specs.Questions.{connects};
 ghost use Rattle.questions.specs.Walks.{joins, joinsAll};
 
 // Whether v is u or reached from it in the window.
 fn joins(table: &[u32], u: u32, v: u32, first: u32, last: u32) -> bool
-    requires { ⌜ Passes (now table) ⌝ }
+    requires { ⌜ ValidTable (now table) ⌝ }
     requires { ⌜ (u < animals (now table)) × (v < animals (now table)) ⌝ }
     ensures { λ r. ⌜ r ≡ joins (now (table .entry)) first last u v ⌝ }
 {
@@ -20,7 +20,7 @@ fn joins(table: &[u32], u: u32, v: u32, first: u32, last: u32) -> bool
 
 // Whether every animal but u is reached from it in the window.
 fn joins_all(table: &[u32], n: u32, u: u32, first: u32, last: u32) -> bool
-    requires { ⌜ Passes (now table) ⌝ }
+    requires { ⌜ ValidTable (now table) ⌝ }
     requires { ⌜ (u < n) × (n ≡ animals (now table)) ⌝ }
     ensures { λ r. ⌜ r ≡ joinsAll (now (table .entry)) first last u ⌝ }
 {
@@ -34,7 +34,7 @@ fn joins_all(table: &[u32], n: u32, u: u32, first: u32, last: u32) -> bool
 
 // Whether every ordered pair of different animals is reached in the window.
 pub(crate) fn connects(table: &[u32], first: u32, last: u32) -> bool
-    requires { ⌜ Passes (now table) ⌝ }
+    requires { ⌜ ValidTable (now table) ⌝ }
     ensures { λ r. ⌜ r ≡ connects (now (table .entry)) first last ⌝ }
 {
     let n = words::animals_of(table[0]);

@@ -23,10 +23,10 @@ use Rattle.rules.specs.Reading.{isLog, between, isTrueEnd, isLegal, logWord, en
 use Rattle.rules.proofs.Folds.{and-left}
 use Rattle.cells.proofs.Checks.{stopped, passed}
 use Rattle.building.proofs.Filling.{contact-of-fields}
-use Rattle.verdicts.specs.declared.Verdict.{Verdict}
-use Rattle.verdicts.specs.declared.Verdict.the-variants.{Passed, Refused}
-use Rattle.verdicts.specs.Verdicts.{verdictOf}
-use Rattle.verdicts.proofs.Groups.{Group, both-groups, group-refused, group-passed}
+use Rattle.checks.specs.declared.Verdict.{Verdict}
+use Rattle.checks.specs.declared.Verdict.the-variants.{Passed, Refused}
+use Rattle.checks.specs.Verdicts.{verdictOf}
+use Rattle.checks.proofs.Groups.{Group, both-groups, group-refused, group-passed}
 
 -- ---- the first word
 

@@ -9,14 +9,15 @@ use lib.ListN.{length, getD, take, drop, replicate}
 use lib.Dec.{eqb}
 use borrow.Author.Tests.{eqb-true}
 use Rattle.journeys.specs.Journey.{Contact, Contacts, In}
-use Rattle.words.specs.Layout.{get, isOf}
+use Rattle.words.specs.Layout.{capacity, get, isOf}
 use Rattle.words.specs.Words.{contactOf, endLayout, loggedField, animalsOf, ticksOf, carryOf}
 use Rattle.words.proofs.Fields.{get-bound}
+use Rattle.rules.specs.Limits.{maxTicks}
 use Rattle.rules.specs.Layout.{tableLength, tableWords, animals, ticks, carry}
 use Rattle.rules.specs.Opening.{Sizes, noIntervals, openRefusal}
 use Rattle.rules.specs.Adding.{Legal}
 use Rattle.rules.specs.Fresh.{Fresh}
-use Rattle.rules.specs.Demand3.{engine, tableAfter}
+use Rattle.rules.specs.CallLists.{engine, tableAfter}
 use Rattle.rules.specs.Reading.{between, loggedContacts, isTrueEnd, different, readRefusal}
 use Rattle.rules.proofs.Folds.{and-right, member-map}
 use Rattle.rules.proofs.Judged.{open-iff}
@@ -30,7 +31,7 @@ use Rattle.building.proofs.Tabled.{opened-table}
 use Rattle.reading.proofs.Checked.{lent-between}
 
 -- The count of an end word has 26 bits.
-logged-small : (w : ℕ) → get loggedField w < 0x400_0000
+logged-small : (w : ℕ) → get loggedField w < capacity loggedField
 logged-small w = get-bound loggedField w
 
 -- What the first word says, with the three numbers as they were taken from it.
@@ -55,7 +56,7 @@ module _ (L T : List ℕ) (h : readRefusal L T ≡ none) (end : ℕ) (s : end �
   log-counted c f = f ∙ ap different contacts-are
 
   -- They are fewer than 2^26.
-  pub log-few : length (take (end - 1) (drop 1 L)) < 0x400_0000
+  pub log-few : length (take (end - 1) (drop 1 L)) < capacity loggedField
   unfolding isTrueEnd
   log-few =
       let r = read-iff L T .0 h in
@@ -69,7 +70,7 @@ module _ (L T : List ℕ) (h : readRefusal L T ≡ none) (end : ℕ) (s : end �
 
   module _ (U : List ℕ) (e : U ≡ tableWords (animals L) (ticks L) (carry L) noIntervals) where
     -- The opened table is ready for marks.
-    pub log-opened : (heads : List ℕ) → heads ≡ replicate 1024 0 → MarkedTable [] heads U
+    pub log-opened : (heads : List ℕ) → heads ≡ replicate maxTicks 0 → MarkedTable [] heads U
     log-opened heads f = opened-table (animals L) (ticks L) (carry L) (table-sizes L) heads U f e
 
     -- The contacts of the log are legal in it.

@@ -7,11 +7,11 @@ ghost use Rattle.journeys.specs.Journey.{contact};
 ghost use Rattle.rules.specs.declared.Refusal.the-variants.{WrongEnd};
 ghost use Rattle.rules.specs.Answers.{ensure};
 ghost use Rattle.rules.specs.Reading.{isLog, between, isTrueEnd, isLegal, logWord, ensureWords, readRefusal};
-ghost use Rattle.verdicts.specs.Verdicts.{verdictOf};
+ghost use Rattle.checks.specs.Verdicts.{verdictOf};
+use checks::Verdict;
 use rules::LogWord;
 use rules::Refusal;
 use tables::Opening;
-use verdicts::Verdict;
 
 // Whether there are two words or more and the first is an opening word.
 fn is_log(log: &[u32]) -> bool

@@ -2,7 +2,7 @@
 ghost use mathlib.Core.Path.{_≡_};
 ghost use mathlib.Core.Option.{none};
 ghost use Rattle.rules.specs.Layout.{animals, ticks, carry};
-ghost use Rattle.rules.specs.Demand3.{engine, tableAfter};
+ghost use Rattle.rules.specs.CallLists.{engine, tableAfter};
 ghost use Rattle.rules.specs.Reading.{loggedContacts, different, readRefusal};
 use tables::Opening;
 

@@ -15,6 +15,7 @@ use Rattle.journeys.specs.Cell.{Cell, hasInside, latestDeparture, earliestArriv
 use Rattle.journeys.proofs.Tests.{Outcome, holds, fails, eq-outcome, lt-outcome, and-outcome, or-outcome}
 use Rattle.journeys.proofs.Cover.{Covers, covers-find, member-covers, hasInside-outcome, NotBefore, NotAfter, latest-iff, earliest-iff}
 use Rattle.journeys.proofs.Theorems.{fits-stored}
+use Rattle.rules.specs.Limits.{maxAnimals}
 use Rattle.rules.specs.declared.AskAnswer.the-variants.{Yes, No}
 use Rattle.rules.specs.declared.TickAnswer.the-variants.{At, Nothing}
 use Rattle.rules.specs.declared.SetAnswer.the-variants.{Found}
@@ -24,7 +25,7 @@ use Rattle.rules.specs.Folds.{flat, allBelow, sumBelow, countBelow}
 use Rattle.rules.specs.Layout.{animals, cellsOf}
 use Rattle.rules.specs.Questions.{window, reaches, reachAnswer, earliestAnswer, latestAnswer, connects, connectedAnswer, isReached, setWord, setWords, reachedRefusal, reachedAnswer, reachedWords, reachedCount}
 use Rattle.rules.specs.Fresh.{Fresh}
-use Rattle.rules.specs.Demand3.{Sorted}
+use Rattle.rules.specs.Orders.{Sorted}
 use Rattle.rules.specs.Fitting.{IsWindow, IsPair, Fits}
 use Rattle.rules.specs.Demand2.{Earliest, Latest, AllFit, ReachedFrom, BitSet}
 use Rattle.rules.proofs.Folds.{all-below, below-all, flat-member, member-flat}
@@ -269,7 +270,7 @@ module _ {n τ δ : ℕ} {S : Contacts} {T : List ℕ} (f : Fresh n τ δ S T) w
       word-at (suc (suc (suc (suc (suc (suc (suc zero))))))) k = refl
       word-at (suc (suc (suc (suc (suc (suc (suc (suc j)))))))) k = absurd (omega arith)
 
-      bit-is : (i : ℕ) → i < 256 → getD (reachedWords T u first last) (i / 32) 0 / 2 ^ (i % 32) % 2 ≡ cond (isReached T u first last i) 1 0
+      bit-is : (i : ℕ) → i < maxAnimals → getD (reachedWords T u first last) (i / 32) 0 / 2 ^ (i % 32) % 2 ≡ cond (isReached T u first last i) 1 0
       unfolding reachedWords setWord
       bit-is i k =
           let j : i / 32 < 8 = omega arith in
@@ -280,7 +281,7 @@ module _ {n τ δ : ℕ} {S : Contacts} {T : List ℕ} (f : Fresh n τ δ S T) w
           ∙ sum-bit (λ c. isReached T u first last (i / 32 * 32 + c)) (i % 32) 32 b
           ∙ ap (λ m. cond (isReached T u first last m) 1 0) e)
 
-      pub reached-bit : (i : ℕ) → i < 256 → BitSet (reachedWords T u first last) i ↔ ReachedFrom S δ n u first last i
+      pub reached-bit : (i : ℕ) → i < maxAnimals → BitSet (reachedWords T u first last) i ↔ ReachedFrom S δ n u first last i
       reached-bit i k =
           let c = reached-iff i in
           (λ e. c .0 (one-true (isReached T u first last i) (sym (bit-is i k) ∙ e)), λ r. bit-is i k ∙ ap (λ (b : Bool). cond b 1 0) (c .1 r))

@@ -16,7 +16,7 @@ use Rattle.rules.specs.declared.TickAnswer.the-variants.{At, Nothing}
 use Rattle.rules.specs.Answers.{ensure, askAnswerOf, tickAnswerOf}
 use Rattle.rules.specs.Folds.{within}
 use Rattle.rules.specs.Layout.{animals, ticks, carry}
-use Rattle.rules.specs.Checks.{isOpen, wellFormed, ensureTable, Passes}
+use Rattle.rules.specs.Checks.{isOpen, wellFormed, ensureTable, ValidTable}
 use Rattle.rules.specs.Adding.{ensurePair}
 use Rattle.rules.specs.Questions.{lastArrival, windowInRange, inOrder, ensureWindow, ensureMoment, ensureAnimal, reachRefusal, momentRefusal, connectedRefusal, reachedRefusal}
 use Rattle.rules.specs.Fresh.{Fresh}

@@ -13,8 +13,9 @@ use Rattle.journeys.specs.Journey.{Contact, contact, Contacts, Interval, interv
 use Rattle.journeys.proofs.Reach.{journey-carries}
 use Rattle.journeys.proofs.Cover.{departure-path, arrival-path}
 use Rattle.rules.specs.Layout.{animals, cellsOf}
-use Rattle.rules.specs.Chains.{Lead, nowhere, there, onward, leads, Lowest, nobody, animal, lowest, before, follow, chainFrom}
-use Rattle.rules.specs.ChainRule.{Onward, Candidate, LowestCandidate, LatestOnward, IsChain, last, next, Distinct, leavers}
+use Rattle.rules.specs.Chains.{Lead, nowhere, there, onward, leads, Lowest, nobody, animal, lowest, prepend, follow, chainFrom}
+use Rattle.rules.specs.ChainRule.{Onward, Candidate, LowestCandidate, LatestOnward, IsChain, last, next}
+use Rattle.rules.specs.NamedChains.{Distinct, leavers}
 use Rattle.rules.specs.Claims.{contactsOf}
 use Rattle.rules.specs.Fresh.{Fresh}
 use Rattle.rules.proofs.Fresh.{fresh-animals}
@@ -106,7 +107,7 @@ module _ {n τ δ : ℕ} {S : Contacts} {T : List ℕ} (f : Fresh n τ δ S T) (
   chain-sound (suc most) x d l hx m e = go (lowest-of (leads T goal b x d) (animals T)) (λ z g k h q. chain-sound most z g k h q) e
     where
       onwards : (z g : ℕ) → LowestCandidate S δ goal b x d z → z ≢ goal → LatestOnward S δ goal b z (d + δ) g → (o : Option (List Contact)) → ((k : List Contact) → o ≡ some k → IsChain S δ goal b z g k)
-          → before (contact x z d) o ≡ some l → IsChain S δ goal b x d l
+          → prepend (contact x z d) o ≡ some l → IsChain S δ goal b x d l
       onwards z g p k r none h q = none-is q
       onwards z g p k r (some w) h q = subst (IsChain S δ goal b x d) (some-is q) (next z g p k r (h w refl))
 
@@ -170,7 +171,7 @@ module _ {n τ δ : ℕ} {S : Contacts} {T : List ℕ} (f : Fresh n τ δ S T) (
       step z there hz q t rest = (contact x z d ∷ [], refl)
       step z (onward e) hz q (going s o late small) rest =
           let r = rest z e hz o small (different z e o (late .leaves) small) (visited e (late .leaves)) in
-          (contact x z d ∷ r .0, ap (before (contact x z d)) (r .1))
+          (contact x z d ∷ r .0, ap (prepend (contact x z d)) (r .1))
 
       go : {o : Lowest} → LowestOf (leads T goal b x d) (animals T) o → Rest → (l : List Contact) × (follow x d o (chainFrom T goal b most) ≡ some l)
       go (none-below r) rest =

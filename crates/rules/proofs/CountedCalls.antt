@@ -16,9 +16,9 @@ use Rattle.rules.specs.declared.Tally.{Tally}
 use Rattle.rules.specs.Adding.{Legal, addRefusal, addAnswer, addLeaves}
 use Rattle.rules.specs.Logs.{heldContacts}
 use Rattle.rules.specs.Fresh.{Fresh}
-use Rattle.rules.specs.Demand3.{LegalOf}
+use Rattle.rules.specs.CallLists.{LegalOf}
 use Rattle.rules.specs.Counting.{tallySum, hasRoom, raised}
-use Rattle.rules.specs.CountedCalls.{Kept, countedCall, runCounted, counted, zeroTally, CountedCalls, AllCountedCalls}
+use Rattle.rules.specs.CountedCalls.{TallyAndTable, countedCall, runCounted, counted, zeroTally, CountedCalls, AllCountedCalls}
 use Rattle.rules.proofs.Judged.{none-some}
 use Rattle.rules.proofs.Counted.{counted-cases}
 use Rattle.rules.proofs.Fresh.{fresh-accepts, add-fresh, fresh-map}
@@ -31,11 +31,11 @@ use Rattle.rules.proofs.Demand3.{fresh-more}
 -- ---- one call
 
 -- What a call leaves that the tally has room for.
-abbrev raisedCall : Kept → Contact → Kept
+abbrev raisedCall : TallyAndTable → Contact → TallyAndTable
 raisedCall s k = record { tally = raised (addAnswer (s .table) k) (s .tally); table = addLeaves (s .table) k }
 
 -- By cases: the tally is full and all stays as it was, or it has room and the call is counted.
-call-cases : (s : Kept) (k : Contact) (P : Bool → Kept → Type 0) → (4294967295 ≤ tallySum (s .tally) → P false s) → (tallySum (s .tally) < 4294967295 → P true (raisedCall s k))
+call-cases : (s : TallyAndTable) (k : Contact) (P : Bool → TallyAndTable → Type 0) → (4294967295 ≤ tallySum (s .tally) → P false s) → (tallySum (s .tally) < 4294967295 → P true (raisedCall s k))
     → P (hasRoom (s .tally)) (countedCall s k)
 call-cases s k P = counted-cases (s .tally) (s .table) k (λ b a L t. P b (record { tally = t; table = L }))
 
@@ -49,7 +49,7 @@ raised-sum (AddRefused r) t = omega arith
 -- ---- the sum of a run
 
 -- The sum rises by the number of calls counted.
-run-sum : (A : List Contact) (s : Kept) → tallySum (runCounted s A .tally) ≡ tallySum (s .tally) + length (counted s A)
+run-sum : (A : List Contact) (s : TallyAndTable) → tallySum (runCounted s A .tally) ≡ tallySum (s .tally) + length (counted s A)
 unfolding runCounted counted
 run-sum [] s = omega arith
 run-sum (k ∷ A) s =
@@ -57,7 +57,7 @@ run-sum (k ∷ A) s =
     (λ h. omega (arith, run-sum A (raisedCall s k), raised-sum (addAnswer (s .table) k) (s .tally)))
 
 -- All calls are counted while the sum leaves room for them.
-run-all : (A : List Contact) (s : Kept) → tallySum (s .tally) + length A ≤ 4294967295 → counted s A ≡ A
+run-all : (A : List Contact) (s : TallyAndTable) → tallySum (s .tally) + length A ≤ 4294967295 → counted s A ≡ A
 unfolding counted
 run-all [] s h = refl
 run-all (k ∷ A) s h =
@@ -88,11 +88,11 @@ module _ {n τ δ : ℕ} {S : Contacts} {T : List ℕ} (f : Fresh n τ δ S T) (
 -- ---- the invariant of a run
 
 -- The table is fresh over S, and new is the number of contacts that it holds.
-record Standing (n τ δ : ℕ) (S : Contacts) (s : Kept) : Type 0 where
+record Standing (n τ δ : ℕ) (S : Contacts) (s : TallyAndTable) : Type 0 where
   pub fresh : Fresh n τ δ S (s .table)
   pub number : s .tally .new ≡ length (heldContacts (s .table))
 
-module _ {n τ δ : ℕ} {S : Contacts} {s : Kept} (g : Standing n τ δ S s) (k : Contact) where
+module _ {n τ δ : ℕ} {S : Contacts} {s : TallyAndTable} (g : Standing n τ δ S s) (k : Contact) where
   -- An accepted call that is counted joins its contact to the set.
   standing-legal : Legal n τ k → Standing n τ δ (With S k) (raisedCall s k)
   standing-legal l = record { fresh = add-fresh (g .fresh) k l; number = go (comesIn-outcome k (heldContacts (s .table))) }
@@ -116,7 +116,7 @@ module _ {n τ δ : ℕ} {S : Contacts} {s : Kept} (g : Standing n τ δ S s) (k
       record { fresh = subst (Fresh n τ δ S) (sym q) (g .fresh); number = rw (q, e) (g .number) }
 
 -- A list of calls joins the legal contacts of those counted to the set, and counts the new ones.
-run-standing : {n τ δ : ℕ} (A : List Contact) {S : Contacts} {s : Kept} → Standing n τ δ S s → Standing n τ δ (Joined n τ S (counted s A)) (runCounted s A)
+run-standing : {n τ δ : ℕ} (A : List Contact) {S : Contacts} {s : TallyAndTable} → Standing n τ δ S s → Standing n τ δ (Joined n τ S (counted s A)) (runCounted s A)
 unfolding runCounted counted
 run-standing [] g = record { fresh = fresh-map (g .fresh) (λ k. (inl, ⊎-elim (λ h. h) (λ h. absurd (List·Memᴰ·not-nil (h .0))))); number = g .number }
 run-standing {n} {τ} {δ} (k ∷ A) {S} {s} g =

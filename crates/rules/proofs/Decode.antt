@@ -14,19 +14,15 @@ use Rattle.journeys.specs.Journey.{Interval, interval}
 use Rattle.journeys.specs.Cell.{Cell, Before, Rising, Limits, WellFormedCell}
 use Rattle.journeys.specs.Adding.{Cells}
 use Rattle.journeys.proofs.Rows.{rows-suffice}
-use Rattle.words.specs.Layout.{get, isOf}
+use Rattle.words.specs.Layout.{capacity, get, isOf}
 use Rattle.words.specs.Words.{openingLayout, openingWord, animalsOf, ticksOf, carryOf, countLayout, countWord, rowsField, intervalLayout, intervalWord, intervalOf, departureField, arrivalField, unusedLayout, unusedWord}
 use Rattle.words.proofs.Packed.{intervalOf-word, intervalWord-is, animalsOf-word, ticksOf-word, carryOf-word, openingWord-is, rowsOf-word, countWord-is, unusedWord-is}
+use Rattle.rules.specs.Limits.{maxTicks, maxCarry}
 use Rattle.rules.specs.Folds.{flat, allBelow}
 use Rattle.rules.specs.Layout.{tableLength, cellWords, tableWords, animals, ticks, carry, cellAt, cellOf, cellsOf}
 use Rattle.rules.specs.Opening.{Sizes}
-use Rattle.rules.specs.Checks.{isOpen, fineRow, fineRows, allUnused, fineCell, wellFormed, Passes}
+use Rattle.rules.specs.Checks.{WellFormedBelow, isOpen, rowWellFormed, rowsWellFormed, allUnused, cellWellFormed, wellFormed, ValidTable}
 use Rattle.rules.proofs.Folds.{and-intro, all-below, body-length, body-part, flat-same, map-back}
-
--- The cells of animals below n are well formed, and each (x, x) is empty.
-pub record Good (n τ δ : ℕ) (T : Cells) : Type 0 where
-  pub cells : (x y : ℕ) → x < n → y < n → WellFormedCell τ δ (T x y)
-  pub diagonal : (x : ℕ) → x < n → T x x ≡ []
 
 -- An empty cell is well formed.
 pub empty-formed : (τ δ : ℕ) → WellFormedCell τ δ []
@@ -34,9 +30,9 @@ empty-formed τ δ = record { rising = tt; limits = λ i m. absurd (List·Memᴰ
 
 -- ---- a cell's words
 
-module _ (τ δ : ℕ) (hτ : τ ≤ 1024) (hδ : δ ≤ 256) where
-  -- Both ends have their 11 bits.
-  pub ends-fit : (i : Interval) → Limits τ δ i → (i .departure < 2048) × (i .arrival < 2048)
+module _ (τ δ : ℕ) (hτ : τ ≤ maxTicks) (hδ : δ ≤ maxCarry) where
+  -- Both ends fit their fields.
+  pub ends-fit : (i : Interval) → Limits τ δ i → (i .departure < capacity departureField) × (i .arrival < capacity arrivalField)
   ends-fit i l = omega (arith, l .in-time, l .arrives)
 
   row-again : (i : Interval) → Limits τ δ i → intervalOf (intervalWord i) ≡ i
@@ -49,9 +45,9 @@ module _ (τ δ : ℕ) (hτ : τ ≤ 1024) (hδ : δ ≤ 256) where
     arrival-again : get arrivalField (intervalWord i) ≡ i .arrival
     arrival-again = ap (λ (j : Interval). j .arrival) (row-again i l)
 
-    fineRow-true : (p q : ℕ) → p < i .departure → q < i .arrival → fineRow τ δ p q (intervalWord i) ≡ true
-    unfolding fineRow
-    fineRow-true p q h k =
+    rowWellFormed-true : (p q : ℕ) → p < i .departure → q < i .arrival → rowWellFormed τ δ p q (intervalWord i) ≡ true
+    unfolding rowWellFormed
+    rowWellFormed-true p q h k =
         let e = sym departure-again in
         let g = sym arrival-again in
         let m = ends-fit i l in
@@ -65,13 +61,13 @@ module _ (τ δ : ℕ) (hτ : τ ≤ 1024) (hδ : δ ≤ 256) where
         (subst (λ a. leb (get departureField (intervalWord i) + δ) a ≡ true) g (subst (λ d. leb (d + δ) (i .arrival) ≡ true) e (le-leb (i .departure + δ) (i .arrival) (l .carried)))))
         (subst (λ a. leb a (τ + δ) ≡ true) g (le-leb (i .arrival) (τ + δ) (l .arrives)))
 
-  fineRows-true : (i : Interval) (c : Cell) → Rising (i ∷ c) → ((j : Interval) → List·Memᴰ j c → Limits τ δ j) → fineRows τ δ (i .departure) (i .arrival) (map intervalWord c) ≡ true
-  unfolding fineRows
-  fineRows-true i [] u f = refl
-  fineRows-true i (j ∷ c) u f =
+  rowsWellFormed-true : (i : Interval) (c : Cell) → Rising (i ∷ c) → ((j : Interval) → List·Memᴰ j c → Limits τ δ j) → rowsWellFormed τ δ (i .departure) (i .arrival) (map intervalWord c) ≡ true
+  unfolding rowsWellFormed
+  rowsWellFormed-true i [] u f = refl
+  rowsWellFormed-true i (j ∷ c) u f =
       let l = f j (List·Memᴰ·head refl) in
-      and-intro (fineRow τ δ (i .departure) (i .arrival) (intervalWord j)) _ (fineRow-true j l (i .departure) (i .arrival) (u .0 .0) (u .0 .1))
-      (subst (λ (k : Interval). fineRows τ δ (k .departure) (k .arrival) (map intervalWord c) ≡ true) (sym (row-again j l)) (fineRows-true j c (u .1) (λ k m. f k (List·Memᴰ·tail m))))
+      and-intro (rowWellFormed τ δ (i .departure) (i .arrival) (intervalWord j)) _ (rowWellFormed-true j l (i .departure) (i .arrival) (u .0 .0) (u .0 .1))
+      (subst (λ (k : Interval). rowsWellFormed τ δ (k .departure) (k .arrival) (map intervalWord c) ≡ true) (sym (row-again j l)) (rowsWellFormed-true j c (u .1) (λ k m. f k (List·Memᴰ·tail m))))
 
   allUnused-true : (k : ℕ) → allUnused (replicate k unusedWord) ≡ true
   unfolding allUnused
@@ -98,13 +94,13 @@ module _ (τ δ : ℕ) (hτ : τ ≤ 1024) (hδ : δ ≤ 256) where
     cell-again = ap (map intervalOf) take-rows ∙ map-back intervalWord intervalOf c (λ i m. row-again i (w .limits i m))
 
     -- A well-formed cell's words pass the check.
-    pub cell-fine : (m : ℕ) → length c ≤ m → fineCell τ δ m (cellWords τ c) ≡ true
-    unfolding fineCell cellWords
+    pub cell-fine : (m : ℕ) → length c ≤ m → cellWellFormed τ δ m (cellWords τ c) ≡ true
+    unfolding cellWellFormed cellWords
     cell-fine m h =
         and-intro _ _
         (and-intro _ _
         (and-intro _ _ (countWord-is (length c) (omega (arith, rows-suffice τ δ c w))) (subst (λ k. leb k m ≡ true) (sym count-again) (le-leb (length c) m h)))
-        (rw take-rows (fineRows-true (interval 0 0) c (from-zero c (w .limits), w .rising) (w .limits))))
+        (rw take-rows (rowsWellFormed-true (interval 0 0) c (from-zero c (w .limits), w .rising) (w .limits))))
         (rw drop-rows (allUnused-true (τ - length c)))
 
     pub cell-length : length (cellWords τ c) ≡ τ + 1
@@ -140,7 +136,7 @@ module _ (n τ δ : ℕ) (z : Sizes n τ δ) where
     unfolding tableWords
     table-carry = carry-again
 
-  module _ (T : Cells) (g : Good n τ δ T) where
+  module _ (T : Cells) (g : WellFormedBelow n τ δ T) where
     words-length : (x y : ℕ) → x < n → y < n → length (cellWords τ (T x y)) ≡ τ + 1
     words-length x y h k = cell-length τ δ (z .τ-high) (z .δ-high) (T x y) (g .cells x y h k)
 
@@ -169,10 +165,10 @@ module _ (n τ δ : ℕ) (z : Sizes n τ δ) where
         first : isOf openingLayout (getD (tableWords n τ δ T) 0 0) ≡ true
         first = unfold tableWords in openingWord-is n τ δ (z .n-low) (z .n-high) (z .τ-low) (z .τ-high) (z .δ-low) (z .δ-high)
 
-    cell-passes : (x y : ℕ) → x < n → y < n → fineCell τ δ (cond (eqb x y) 0 τ) (cellAt n τ (tableWords n τ δ T) x y) ≡ true
+    cell-passes : (x y : ℕ) → x < n → y < n → cellWellFormed τ δ (cond (eqb x y) 0 τ) (cellAt n τ (tableWords n τ δ T) x y) ≡ true
     cell-passes x y h k = rw (table-cell x y h k) (go (ℕ-discrete x y))
       where
-        go : Dec (x ≡ y) → fineCell τ δ (cond (eqb x y) 0 τ) (cellWords τ (T x y)) ≡ true
+        go : Dec (x ≡ y) → cellWellFormed τ δ (cond (eqb x y) 0 τ) (cellWords τ (T x y)) ≡ true
         go (yes e) =
             let d : T x y ≡ [] = subst (λ (v : ℕ). T x v ≡ []) e (g .diagonal x h) in
             rw (eq-eqb x y e, d) (cell-fine τ δ (z .τ-high) (z .δ-high) [] (empty-formed τ δ) 0 (omega arith))
@@ -184,11 +180,11 @@ module _ (n τ δ : ℕ) (z : Sizes n τ δ) where
     unfolding wellFormed
     table-formed =
         rw (table-animals T, table-ticks T, table-carry T)
-        (all-below (λ x. allBelow (λ y. fineCell τ δ (cond (eqb x y) 0 τ) (cellAt n τ (tableWords n τ δ T) x y)) n) n
-        (λ x h. all-below (λ y. fineCell τ δ (cond (eqb x y) 0 τ) (cellAt n τ (tableWords n τ δ T) x y)) n (λ y k. cell-passes x y h k)))
+        (all-below (λ x. allBelow (λ y. cellWellFormed τ δ (cond (eqb x y) 0 τ) (cellAt n τ (tableWords n τ δ T) x y)) n) n
+        (λ x h. all-below (λ y. cellWellFormed τ δ (cond (eqb x y) 0 τ) (cellAt n τ (tableWords n τ δ T) x y)) n (λ y k. cell-passes x y h k)))
 
     -- A table of well-formed cells passes 5 and 6.
-    pub table-passes : Passes (tableWords n τ δ T)
+    pub table-passes : ValidTable (tableWords n τ δ T)
     table-passes = record { opens = table-opens; formed = table-formed }
 
 -- Equal cells below n have equal words.

@@ -28,20 +28,20 @@ use Rattle.rules.specs.declared.ChainAnswer.the-variants.{Chain, NoJourn
 use Rattle.words.specs.Words.{contactWord}
 use Rattle.rules.specs.Answers.{numberOf, ensure, unless, openAnswerOf, addAnswerOf, writeAnswerOf, readAnswerOf}
 use Rattle.rules.specs.Layout.{tableLength, tableWords, animals, ticks, carry, cellsOf}
-use Rattle.rules.specs.Checks.{isOpen, wellFormed, Passes}
+use Rattle.rules.specs.Checks.{isOpen, wellFormed, ValidTable, WellFormedBelow}
 use Rattle.rules.specs.Opening.{openRefusal, openAnswer, openLeaves}
 use Rattle.rules.specs.Adding.{Legal, addRefusal, addedCells, holds, cellsChanged, addAnswer, addLeaves}
 use Rattle.rules.specs.Logs.{heldContacts, logWords, writeRefusal, writeAnswer, writeLeaves}
 use Rattle.rules.specs.Fresh.{Fresh}
-use Rattle.rules.specs.Demand3.{LegalOf}
+use Rattle.rules.specs.CallLists.{LegalOf}
 use Rattle.rules.specs.Reading.{loggedContacts, readRefusal, different, readAnswer, readLeaves}
 use Rattle.rules.specs.Folds.{countBelow, within}
 use Rattle.rules.specs.Questions.{windowInRange, inOrder, setAnswerOf, isReached, setWords, reachedRefusal, reachedAnswer, reachedWords, reachedCount}
-use Rattle.rules.specs.Chains.{nowhere, there, onward, leads, Lowest, nobody, animal, lowest, before, follow, chainFrom, fromDeparture, withArrival, chainOf, chainRefusal, chainAnswerOf, chainAnswer, chainWords, chainLeaves}
+use Rattle.rules.specs.Chains.{nowhere, there, onward, leads, Lowest, nobody, animal, lowest, prepend, follow, chainFrom, fromDeparture, withArrival, chainOf, chainRefusal, chainAnswerOf, chainAnswer, chainWords, chainLeaves}
 use Rattle.rules.specs.Counting.{tallySum, countedAnswer, countedLeaves, raised, countedTally}
 use Rattle.rules.specs.QuestionList.{asked, listRefusal, listAnswerOf, listAnswer, listLeaves}
 use Rattle.rules.specs.Demand1.{Demand1}
-use Rattle.rules.proofs.Decode.{Good, table-length, table-passes}
+use Rattle.rules.proofs.Decode.{table-length, table-passes}
 use Rattle.rules.proofs.Sound.{table-sizes, passes-good, opens-length}
 use Rattle.rules.proofs.Judged.{ensure-iff, unless-cases, open-iff, add-iff}
 use Rattle.rules.proofs.Fresh.{add-good, empty-good, fresh-length, fresh-passes}
@@ -68,10 +68,10 @@ open-length n τ δ T =
     open-cases n τ δ T (λ o L. length L ≡ length T) (λ r. refl)
     (λ e. let h = open-iff n τ δ T .0 e in table-length n τ δ (h .0) (λ u v. []) (empty-good n τ δ) ∙ sym (h .1))
 
-open-passes : (n τ δ : ℕ) (T : List ℕ) → openAnswer n τ δ T ≡ Opened → Passes (openLeaves n τ δ T)
+open-valid : (n τ δ : ℕ) (T : List ℕ) → openAnswer n τ δ T ≡ Opened → ValidTable (openLeaves n τ δ T)
 unfolding openAnswer
-open-passes n τ δ T =
-    open-cases n τ δ T (λ o L. openAnswerOf o ≡ Opened → Passes L) (λ r e. absurd (let z : _≡_ {A = ℕ} 0 1 = cc in omega arith))
+open-valid n τ δ T =
+    open-cases n τ δ T (λ o L. openAnswerOf o ≡ Opened → ValidTable L) (λ r e. absurd (let z : _≡_ {A = ℕ} 0 1 = cc in omega arith))
     (λ p e. table-passes n τ δ (open-iff n τ δ T .0 p .0) (λ u v. []) (empty-good n τ δ))
 
 -- ---- adding
@@ -83,7 +83,7 @@ unfolding addLeaves
 add-cases T k P a b = unless-cases (addRefusal T k) P a b
 
 -- The cells that an accepted add leaves are well formed.
-pub added-good : (T : List ℕ) (k : Contact) → addRefusal T k ≡ none → Good (animals T) (ticks T) (carry T) (addedCells T k)
+pub added-good : (T : List ℕ) (k : Contact) → addRefusal T k ≡ none → WellFormedBelow (animals T) (ticks T) (carry T) (addedCells T k)
 unfolding addedCells
 added-good T k e = let h = add-iff T k .0 e in add-good (animals T) (ticks T) (carry T) (cellsOf T) k (h .1) (passes-good T (h .0))
 
@@ -103,9 +103,9 @@ add-length T k =
     add-cases T k (λ o L. length L ≡ length T) (λ r p. refl)
     (λ e. table-length (animals T) (ticks T) (carry T) (table-sizes T) (addedCells T k) (added-good T k e) ∙ sym (opens-length T (add-iff T k .0 e .0 .opens)))
 
-add-passes : (T : List ℕ) (k : Contact) → Passes T → Passes (addLeaves T k)
-add-passes T k p =
-    add-cases T k (λ o L. Passes L) (λ r e. p) (λ e. table-passes (animals T) (ticks T) (carry T) (table-sizes T) (addedCells T k) (added-good T k e))
+add-valid : (T : List ℕ) (k : Contact) → ValidTable T → ValidTable (addLeaves T k)
+add-valid T k p =
+    add-cases T k (λ o L. ValidTable L) (λ r e. p) (λ e. table-passes (animals T) (ticks T) (carry T) (table-sizes T) (addedCells T k) (added-good T k e))
 
 -- ---- counted adding
 
@@ -199,7 +199,7 @@ unfolding writeAnswer
 write-kept T B r = write-cases T B (λ o L. writeAnswerOf o (Written (length (heldContacts T) + 2)) ≡ WriteRefused r → L ≡ B) (λ s e. refl) (λ p e. absurd (let z : _≡_ {A = ℕ} 0 1 = cc in omega arith))
 
 -- A log that is written fits its buffer.
-pub write-fits : (T B : List ℕ) → writeRefusal T B ≡ none → Passes T × (length (heldContacts T) + 2 ≤ length B)
+pub write-fits : (T B : List ℕ) → writeRefusal T B ≡ none → ValidTable T × (length (heldContacts T) + 2 ≤ length B)
 unfolding writeRefusal
 write-fits T B e =
     let p = ensure-iff (isOpen T) NotOpen _ .0 e in
@@ -234,10 +234,10 @@ read-kept L T r =
 read-length : (L T : List ℕ) → length (readLeaves L T) ≡ length T
 read-length L T = read-cases L T (λ o U. length U ≡ length T) (λ r. refl) (λ h U f. fresh-length f ∙ sym (h .fits))
 
-read-passes : (L T : List ℕ) (k : ℕ) → readAnswer L T ≡ Read k → Passes (readLeaves L T)
+read-valid : (L T : List ℕ) (k : ℕ) → readAnswer L T ≡ Read k → ValidTable (readLeaves L T)
 unfolding readAnswer
-read-passes L T k =
-    read-cases L T (λ o U. readAnswerOf o (Read (different (loggedContacts L))) ≡ Read k → Passes U)
+read-valid L T k =
+    read-cases L T (λ o U. readAnswerOf o (Read (different (loggedContacts L))) ≡ Read k → ValidTable U)
     (λ r e. absurd (let z : _≡_ {A = ℕ} 0 1 = cc in omega arith)) (λ h U f e. fresh-passes f)
 
 -- ---- the animals reached
@@ -263,7 +263,7 @@ unfolding chainFrom
 chain-short T goal b zero x d = omega arith
 chain-short T goal b (suc most) x d = go (lowest (leads T goal b x d) (animals T)) (chain-short T goal b most)
   where
-    behind : (k : Contact) (o : Option (List Contact)) → size o ≤ most → size (before k o) ≤ suc most
+    behind : (k : Contact) (o : Option (List Contact)) → size o ≤ most → size (prepend k o) ≤ suc most
     behind k none h = omega arith
     behind k (some l) h = omega arith
 
@@ -341,8 +341,8 @@ demand1 =
       counted-length = counted-length;
       list-length = list-length;
       chain-length = chain-length;
-      open-passes = open-passes;
-      read-passes = read-passes;
-      add-passes = add-passes;
+      open-valid = open-valid;
+      read-valid = read-valid;
+      add-valid = add-valid;
       legal-accepted = λ T k p l r e. add-accepted T k r e (add-iff T k .1 (p, l));
     }

@@ -26,13 +26,15 @@ use Rattle.rules.specs.declared.WriteAnswer.the-variants.{Written}
 use Rattle.rules.specs.Answers.{openAnswerOf, addAnswerOf}
 use Rattle.rules.specs.Folds.{flat, sumBelow, countBelow}
 use Rattle.rules.specs.Layout.{tableLength, cellWords, tableWords, cellAt, cellOf, animals, carry, cellsOf}
-use Rattle.rules.specs.Checks.{isOpen, wellFormed, Passes}
+use Rattle.rules.specs.Checks.{isOpen, wellFormed, ValidTable}
 use Rattle.rules.specs.Opening.{Sizes, openRefusal, openAnswer, openLeaves}
 use Rattle.rules.specs.Adding.{Legal, sameCell, cellsChanged, addRefusal, addedCells, addAnswer, addLeaves}
 use Rattle.rules.specs.Adding as Adding
 use Rattle.rules.specs.Logs.{heldContacts, logWords, writeRefusal, writeAnswer, writeLeaves}
 use Rattle.rules.specs.Fresh.{Fresh}
-use Rattle.rules.specs.Demand3.{Engine, engine, run, tableAfter, LegalOf, Accepted, Sorted, Pair, Lower, SameMinimal, Changed, OneMore, OneList, TwoLists, Demand3}
+use Rattle.rules.specs.CallLists.{Engine, engine, run, tableAfter, LegalOf, Accepted}
+use Rattle.rules.specs.Orders.{Sorted, Pair, Lower}
+use Rattle.rules.specs.Demand3.{SameMinimal, Changed, OneMore, OneList, TwoLists, Demand3}
 use Rattle.rules.proofs.Folds.{flat-member, member-flat, sum-same, count-same}
 use Rattle.rules.proofs.Decode.{cell-again, table-cell}
 use Rattle.rules.proofs.Sound.{opens-first}

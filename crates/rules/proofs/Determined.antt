@@ -11,7 +11,9 @@ use Rattle.rules.specs.declared.OpenAnswer.the-variants.{Opened}
 use Rattle.rules.specs.declared.AddAnswer.the-variants.{New, Known}
 use Rattle.rules.specs.Adding.{Legal}
 use Rattle.rules.specs.Logs.{logWords}
-use Rattle.rules.specs.Demand3.{Engine, tableAfter, LegalOf, Accepted, Sorted, Earlier, Pair, Lower, OneMore, OneList, Demand3}
+use Rattle.rules.specs.CallLists.{Engine, tableAfter, LegalOf, Accepted}
+use Rattle.rules.specs.Orders.{Sorted, Earlier, Pair, Lower}
+use Rattle.rules.specs.Demand3.{OneMore, OneList, Demand3}
 use Rattle.rules.specs.Determined.{AgreeAfter, Agree, Determined}
 use Rattle.rules.proofs.Fresh.{fresh-unique}
 use Rattle.rules.proofs.Sorted.{sorted-unique, lower-irreflexive, lower-transitive, earlier-irreflexive, earlier-transitive}

@@ -19,14 +19,14 @@ use Rattle.rules.specs.declared.TickAnswer.{TickAnswer}
 use Rattle.rules.specs.declared.TickAnswer.the-variants.{At, Nothing, Refused as TickRefused}
 use Rattle.rules.specs.Folds.{flat, allBelow}
 use Rattle.rules.specs.Layout.{cellWords, tableWords, cellAt, cellOf, cellsOf}
-use Rattle.rules.specs.Checks.{isOpen, fineRow, fineRows, allUnused, fineCell, wellFormed}
+use Rattle.rules.specs.Checks.{isOpen, rowWellFormed, rowsWellFormed, allUnused, cellWellFormed, wellFormed}
 use Rattle.rules.specs.Opening.{openRefusal, openLeaves}
 use Rattle.rules.specs.Adding.{stands, sameCell, addRefusal, addedCells, addLeaves}
 use Rattle.rules.specs.Adding as Adding
 use Rattle.rules.specs.Questions.{reaches, reachRefusal, reachAnswer, momentRefusal, earliestAnswer, latestAnswer}
 use Rattle.rules.specs.Chains.{departureWith, leads, lowest, chainFrom, chainOf}
-use Rattle.rules.specs.Demand3.{run}
-use Rattle.rules.specs.Examples.{Row, asks-reach, asks-earliest, asks-latest, asks-chain, asks-cell, Says, Sheet, sheetTable, marked, Marked}
+use Rattle.rules.specs.CallLists.{run}
+use Rattle.rules.specs.Examples.{Row, asks-reach, asks-earliest, asks-latest, asks-chain, asks-cell, Says, ExampleTable, exampleTable, marked, Marked}
 use Rattle.rules.proofs.Folds.{and-left, and-right}
 use Rattle.rules.proofs.Changes.{sameCell-outcome}
 
@@ -142,14 +142,14 @@ every-member p [] e a m = absurd (List·Memᴰ·not-nil m)
 every-member p (b ∷ l) e a m =
     ⊎-elim (λ q. subst (λ c. p c ≡ true) (sym q) (and-left (p b) (every p l) e)) (λ k. every-member p l (and-right (p b) (every p l) e) a k) (List·Memᴰ·cases-cons m)
 
-sheetTest : Sheet → Bool
-sheetTest s = every (rowTest (sheetTable s)) (s .rows)
+sheetTest : ExampleTable → Bool
+sheetTest s = every (rowTest (exampleTable s)) (s .rows)
 
 -- The test passes for the whole table.
 computed : every sheetTest marked ≡ true
-unfolding every sheetTest rowTest sameAsk sameTick isChain sameContacts sameContact sameCell openLeaves openRefusal tableWords flat cellWords run addLeaves addRefusal isOpen isOf wellFormed allBelow fineCell fineRows fineRow allUnused cellsOf cellAt cellOf addedCells add departureOf arrivalOf enterBoth enter putInOrder withoutContaining hasInside latestDeparture earliestArrival later sooner stands Adding.holds reaches reachRefusal reachAnswer momentRefusal earliestAnswer latestAnswer departureWith leads lowest chainFrom chainOf
+unfolding every sheetTest rowTest sameAsk sameTick isChain sameContacts sameContact sameCell openLeaves openRefusal tableWords flat cellWords run addLeaves addRefusal isOpen isOf wellFormed allBelow cellWellFormed rowsWellFormed rowWellFormed allUnused cellsOf cellAt cellOf addedCells add departureOf arrivalOf enterBoth enter putInOrder withoutContaining hasInside latestDeparture earliestArrival later sooner stands Adding.holds reaches reachRefusal reachAnswer momentRefusal earliestAnswer latestAnswer departureWith leads lowest chainFrom chainOf
 computed = refl
 
 pub marked-hold : Marked
 unfolding sheetTest
-marked-hold s m r k = row-says (sheetTable s) r (every-member (rowTest (sheetTable s)) (s .rows) (every-member sheetTest marked computed s m) r k)
+marked-hold s m r k = row-says (exampleTable s) r (every-member (rowTest (exampleTable s)) (s .rows) (every-member sheetTest marked computed s m) r k)

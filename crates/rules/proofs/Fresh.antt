@@ -16,24 +16,24 @@ use Rattle.journeys.proofs.Rows.{add-cell-wellFormed}
 use Rattle.journeys.proofs.Theorems.{closure, empty-cells, cells-map, cells-unique}
 use Rattle.rules.specs.Answers.{unless}
 use Rattle.rules.specs.Layout.{tableLength, tableWords, animals, ticks, carry, cellsOf}
-use Rattle.rules.specs.Checks.{Passes}
+use Rattle.rules.specs.Checks.{ValidTable, WellFormedBelow}
 use Rattle.rules.specs.Opening.{Sizes, openRefusal, openLeaves}
 use Rattle.rules.specs.Adding.{Legal, addRefusal, addedCells, addLeaves}
 use Rattle.rules.specs.Fresh.{Fresh}
-use Rattle.rules.proofs.Decode.{Good, empty-formed, table-animals, table-ticks, table-carry, table-length, cells-again, table-passes, table-same}
+use Rattle.rules.proofs.Decode.{empty-formed, table-animals, table-ticks, table-carry, table-length, cells-again, table-passes, table-same}
 use Rattle.rules.proofs.Sound.{table-sizes, passes-good, passes-table, opens-length}
 use Rattle.rules.proofs.Judged.{open-iff, add-iff}
 
 -- ---- the rule keeps good cells good
 
-pub add-good : (n τ δ : ℕ) (T : Cells) (k : Contact) → Legal n τ k → Good n τ δ T → Good n τ δ (add δ T k)
+pub add-good : (n τ δ : ℕ) (T : Cells) (k : Contact) → Legal n τ k → WellFormedBelow n τ δ T → WellFormedBelow n τ δ (add δ T k)
 add-good n τ δ T k l g =
     record {
       cells = λ x y h j. add-cell-wellFormed τ δ T k (l .from-one) (l .to-last) x y (g .cells x y h j) (g .cells x (k .from) h (l .from-below)) (g .cells (k .to) y (l .to-below) j);
       diagonal = λ x h. add-diagonal δ T k x ∙ g .diagonal x h;
     }
 
-pub empty-good : (n τ δ : ℕ) → Good n τ δ (λ x y. [])
+pub empty-good : (n τ δ : ℕ) → WellFormedBelow n τ δ (λ x y. [])
 empty-good n τ δ = record { cells = λ x y h k. empty-formed τ δ; diagonal = λ x h. refl }
 
 -- ---- a fresh table
@@ -47,7 +47,7 @@ module _ {n τ δ : ℕ} {S : Contacts} {T : List ℕ} (f : Fresh n τ δ S T) w
       record { departs = r .0; in-time = r .1; carried = c; arrives = r .2 }
 
   -- The cells of a fresh table are well formed.
-  pub fresh-good : Good n τ δ (f .cells)
+  pub fresh-good : WellFormedBelow n τ δ (f .cells)
   fresh-good = record { cells = λ x y h k. go x y (ℕ-discrete x y); diagonal = λ x h. f .minimal .diagonal x }
     where
       go : (x y : ℕ) → Dec (x ≡ y) → WellFormedCell τ δ (f .cells x y)
@@ -68,8 +68,8 @@ module _ {n τ δ : ℕ} {S : Contacts} {T : List ℕ} (f : Fresh n τ δ S T) w
   fresh-length = ap length (f .words) ∙ table-length n τ δ (f .sizes) (f .cells) fresh-good
 
   -- A fresh table passes 5 and 6.
-  pub fresh-passes : Passes T
-  fresh-passes = subst Passes (sym (f .words)) (table-passes n τ δ (f .sizes) (f .cells) fresh-good)
+  pub fresh-passes : ValidTable T
+  fresh-passes = subst ValidTable (sym (f .words)) (table-passes n τ δ (f .sizes) (f .cells) fresh-good)
 
   -- Its cells, read off its words, are the cells of its set.
   pub fresh-cells : (x y : ℕ) → x < n → y < n → cellsOf T x y ≡ f .cells x y

@@ -12,14 +12,15 @@ use Rattle.journeys.specs.Journey.{Contact, contact, Contacts, interval}
 use Rattle.journeys.specs.Cell.{Cell}
 use Rattle.journeys.proofs.Tests.{Outcome, holds, fails}
 use Rattle.journeys.proofs.Theorems.{contacts-stand}
+use Rattle.rules.specs.Limits.{maxContacts, maxChain}
 use Rattle.rules.specs.Folds.{flat}
 use Rattle.rules.specs.Layout.{animals, ticks, carry, cellsOf}
-use Rattle.rules.specs.Checks.{Passes}
+use Rattle.rules.specs.Checks.{ValidTable}
 use Rattle.rules.specs.Adding.{stands}
 use Rattle.rules.specs.Adding as Adding
 use Rattle.rules.specs.Logs.{held, heldContacts}
 use Rattle.rules.specs.Fresh.{Fresh}
-use Rattle.rules.specs.Demand3.{Sorted, Earlier}
+use Rattle.rules.specs.Orders.{Sorted, Earlier}
 use Rattle.rules.proofs.Folds.{flat-few, flat-skip, flat-member, member-flat}
 use Rattle.rules.proofs.Sound.{table-sizes, passes-good}
 use Rattle.rules.proofs.Changes.{stands-outcome}
@@ -132,7 +133,7 @@ held-at-most true k = omega arith
 held-at-most false k = omega arith
 
 -- The words of a log are fewer than the end word's field can say: a table holds no more than n·(n−1)·τ contacts.
-pub held-few : (T : List ℕ) → Passes T → length (heldContacts T) + 2 < 0x400_0000
+pub held-few : (T : List ℕ) → ValidTable T → length (heldContacts T) + 2 < maxContacts
 unfolding heldContacts held Adding.holds
 held-few T p = last (flat-few (rows T) (n * (n - 1)) τ (λ t h. flat-few (row T t) (n - 1) n (λ u k. one-row t u k)))
   where
@@ -148,11 +149,11 @@ held-few T p = last (flat-few (rows T) (n * (n - 1)) τ (λ t h. flat-few (row T
         let a = flat-skip (λ v. held T (contact u v (t + 1))) u n h (λ v. held-at-most (Adding.holds T (contact u v (t + 1))) (contact u v (t + 1))) e in
         omega arith
 
-    last : {m : ℕ} → m ≤ τ * (n * (n - 1)) → m + 2 < 0x400_0000
+    last : {m : ℕ} → m ≤ τ * (n * (n - 1)) → m + 2 < maxContacts
     last {m} h =
         let z = table-sizes T in
-        let h₂ : n - 1 ≤ 255 = omega (arith, z .n-high) in
-        let a : n * (n - 1) ≤ n * 255 = mul-le-mul-left n h₂ in
+        let h₂ : n - 1 ≤ maxChain = omega (arith, z .n-high) in
+        let a : n * (n - 1) ≤ n * maxChain = mul-le-mul-left n h₂ in
         let b : n * (n - 1) ≤ 65280 = omega (arith, z .n-high) in
         let c : τ * (n * (n - 1)) ≤ τ * 65280 = mul-le-mul-left τ b in
         omega (arith, z .τ-high)

@@ -15,8 +15,9 @@ use Rattle.rules.specs.declared.Refusal.the-variants.{AnimalsBeyondLimit
 use Rattle.rules.specs.Answers.{ensure, unless}
 use Rattle.rules.specs.Folds.{within}
 use Rattle.rules.specs.Layout.{tableLength, animals, ticks}
-use Rattle.rules.specs.Checks.{isOpen, wellFormed, Passes}
-use Rattle.rules.specs.Opening.{maxAnimals, maxTicks, maxCarry, Sizes, ensureSizes, openRefusal}
+use Rattle.rules.specs.Checks.{isOpen, wellFormed, ValidTable}
+use Rattle.rules.specs.Limits.{maxAnimals, maxTicks, maxCarry}
+use Rattle.rules.specs.Opening.{Sizes, ensureSizes, openRefusal}
 use Rattle.rules.specs.Adding.{Legal, addRefusal}
 use Rattle.rules.proofs.Folds.{and-left, and-right, and-intro}
 
@@ -83,7 +84,7 @@ open-iff n τ δ T = (
 -- ---- adding
 
 -- An add is accepted exactly when the table passes 5 and 6 and the contact is legal.
-pub add-iff : (T : List ℕ) (k : Contact) → (addRefusal T k ≡ none) ↔ (Passes T × Legal (animals T) (ticks T) k)
+pub add-iff : (T : List ℕ) (k : Contact) → (addRefusal T k ≡ none) ↔ (ValidTable T × Legal (animals T) (ticks T) k)
 unfolding addRefusal
 add-iff T k = (to, of)
   where
@@ -96,7 +97,7 @@ add-iff T k = (to, of)
     pair : Bool
     pair = ltb u (animals T) && ltb v (animals T)
 
-    to : addRefusal T k ≡ none → Passes T × Legal (animals T) (ticks T) k
+    to : addRefusal T k ≡ none → ValidTable T × Legal (animals T) (ticks T) k
     to e =
         let p = ensure-iff (isOpen T) NotOpen _ .0 e in
         let q = ensure-iff (wellFormed T) NotWellFormed _ .0 (p .1) in
@@ -114,7 +115,7 @@ add-iff T k = (to, of)
           },
         )
 
-    of : Passes T × Legal (animals T) (ticks T) k → addRefusal T k ≡ none
+    of : ValidTable T × Legal (animals T) (ticks T) k → addRefusal T k ≡ none
     of h =
         let p = h .0 in
         let l = h .1 in

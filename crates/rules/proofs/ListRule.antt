@@ -11,11 +11,11 @@ use Rattle.words.specs.Layout.{isOf}
 use Rattle.rules.specs.declared.Question.{Question}
 use Rattle.rules.specs.Folds.{flat, allBelow}
 use Rattle.rules.specs.Layout.{cellWords, tableWords, cellAt, cellOf, cellsOf}
-use Rattle.rules.specs.Checks.{isOpen, fineRow, fineRows, allUnused, fineCell, wellFormed}
+use Rattle.rules.specs.Checks.{isOpen, rowWellFormed, rowsWellFormed, allUnused, cellWellFormed, wellFormed}
 use Rattle.rules.specs.Opening.{openRefusal, openLeaves}
 use Rattle.rules.specs.Adding.{stands, addRefusal, addedCells, addLeaves, holds}
 use Rattle.rules.specs.Questions.{reaches, reachRefusal, reachAnswer}
-use Rattle.rules.specs.Demand3.{run}
+use Rattle.rules.specs.CallLists.{run}
 use Rattle.rules.specs.QuestionList.{recordAnswerOf, asked, listAnswer, listLeaves}
 use Rattle.rules.specs.ListRule.{Filled, ListRule, ListExamples}
 
@@ -53,7 +53,7 @@ list-rule =
 pub list-examples : ListExamples
 unfolding
     listAnswer listLeaves asked reachAnswer reachRefusal reaches run openRefusal openLeaves addRefusal addedCells addLeaves holds stands
-    isOpen fineRow fineRows allUnused fineCell wellFormed flat allBelow cellWords tableWords cellAt cellOf cellsOf isOf add enterBoth departureOf arrivalOf
+    isOpen rowWellFormed rowsWellFormed allUnused cellWellFormed wellFormed flat allBelow cellWords tableWords cellAt cellOf cellsOf isOf add enterBoth departureOf arrivalOf
     later sooner latestDeparture earliestArrival hasInside withoutContaining putInOrder enter
 list-examples =
     record {

@@ -18,7 +18,7 @@ use Rattle.rules.specs.Answers.{readAnswerOf, writeAnswerOf}
 use Rattle.rules.specs.Layout.{tableLength, animals, ticks, carry}
 use Rattle.rules.specs.Logs.{heldContacts, logWords, writeRefusal, writeAnswer, writeLeaves}
 use Rattle.rules.specs.Fresh.{Fresh}
-use Rattle.rules.specs.Demand3.{Sorted, Earlier}
+use Rattle.rules.specs.Orders.{Sorted, Earlier}
 use Rattle.rules.specs.Reading.{loggedContacts, different, readRefusal, readAnswer, readLeaves}
 use Rattle.rules.specs.Sheet.{mostBytes, wordsOf, tooLarge, tableText, isBeyond, logText, sheetText}
 use Rattle.rules.specs.LogsRead.{IsLog, LogsRead}

@@ -15,6 +15,7 @@ use Rattle.journeys.proofs.Tests.{Outcome, holds, fails, eq-outcome, and-outcom
 use Rattle.words.specs.Layout.{get, isOf}
 use Rattle.words.specs.Words.{openingWord, animalsOf, ticksOf, carryOf, contactLayout, contactWord, contactOf, endLayout, endWord, loggedField}
 use Rattle.words.proofs.Packed.{contactOf-bound, contactOf-word, contactWord-is, contactWord-of, openingWord-is, openingWord-of, loggedOf-word, loggedOf-bound, endWord-is, endWord-of}
+use Rattle.rules.specs.Limits.{maxAnimals, maxTicks}
 use Rattle.rules.specs.declared.Refusal.{Refusal}
 use Rattle.rules.specs.declared.Refusal.the-variants.{NotALog, WrongLength, NotAContact, IllegalContact, WrongEnd}
 use Rattle.rules.specs.declared.LogWord.the-variants.{Legal as LegalWord, NoContact, NotLegal}
@@ -319,9 +320,9 @@ module _ {n τ δ : ℕ} {l : List Contact} {L : List ℕ} (g : IsLog n τ δ l 
   word-again k m =
       let z = g .sizes in
       let h = g .legal k m in
-      let a : k .from < 256 = omega (arith, z .n-high, h .from-below) in
-      let b : k .to < 256 = omega (arith, z .n-high, h .to-below) in
-      let c : k .tick ≤ 1024 = omega (arith, z .τ-high, h .to-last) in
+      let a : k .from < maxAnimals = omega (arith, z .n-high, h .from-below) in
+      let b : k .to < maxAnimals = omega (arith, z .n-high, h .to-below) in
+      let c : k .tick ≤ maxTicks = omega (arith, z .τ-high, h .to-last) in
       (contactOf-word k a b (h .from-one) c, contactWord-is k a b (h .from-one) c)
 
   -- The contacts of a log are those that it was made of.

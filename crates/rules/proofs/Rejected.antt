@@ -16,11 +16,13 @@ use Rattle.rules.specs.declared.AddAnswer.{AddAnswer}
 use Rattle.rules.specs.declared.AddAnswer.the-variants.{New, Known, Refused as AddRefused}
 use Rattle.rules.specs.Folds.{flat, allBelow, sumBelow, countBelow}
 use Rattle.rules.specs.Layout.{cellWords, tableWords, cellAt, cellOf, cellsOf}
-use Rattle.rules.specs.Checks.{isOpen, fineRow, fineRows, allUnused, fineCell, wellFormed}
+use Rattle.rules.specs.Checks.{isOpen, rowWellFormed, rowsWellFormed, allUnused, cellWellFormed, wellFormed}
 use Rattle.rules.specs.Opening.{openRefusal, openAnswer, openLeaves}
 use Rattle.rules.specs.Adding.{Legal, stands, sameCell, cellsChanged, addRefusal, addedCells, holds, addAnswer, addLeaves}
 use Rattle.rules.specs.Logs.{held, heldContacts, logWords, writeRefusal, writeAnswer, writeLeaves}
-use Rattle.rules.specs.Demand3.{Engine, engine, run, tableAfter, LegalOf, Accepted, Sorted, Earlier, Demand3}
+use Rattle.rules.specs.CallLists.{Engine, engine, run, tableAfter, LegalOf, Accepted}
+use Rattle.rules.specs.Orders.{Sorted, Earlier}
+use Rattle.rules.specs.Demand3.{Demand3}
 use Rattle.rules.specs.Determined.{AgreeAfter, Agree}
 use Rattle.rules.specs.Wrong.{leavesTable, loneContacts, joinsEarlier, joinsLater, firstPairOnly, keepsDisplaced, countsOne, alwaysKnown, alwaysNew, refusesAdds, refusesOpenings, unsortedLog, repeatsInLog, Rejected}
 use Rattle.rules.proofs.Demand3.{demand3}
@@ -73,7 +75,7 @@ same-logged : (E : Engine) → Demand3 E → E .open-answer 3 2 1 blank ≡ Open
 same-logged E d p i = ap (λ (l : List ℕ). getD l i 0) (agree E d p twice .log twice twice-sorted twice-legal (replicate 6 0) (omega arith))
 
 pub rejected : Rejected
-unfolding openAnswer openLeaves openRefusal tableWords flat cellWords run addLeaves addAnswer addRefusal isOpen isOf wellFormed allBelow fineCell fineRows fineRow allUnused cellsOf cellAt cellOf addedCells add departureOf arrivalOf enterBoth enter putInOrder withoutContaining hasInside latestDeparture earliestArrival later sooner stands holds cellsChanged sumBelow countBelow sameCell held heldContacts logWords writeRefusal writeAnswer writeLeaves
+unfolding openAnswer openLeaves openRefusal tableWords flat cellWords run addLeaves addAnswer addRefusal isOpen isOf wellFormed allBelow cellWellFormed rowsWellFormed rowWellFormed allUnused cellsOf cellAt cellOf addedCells add departureOf arrivalOf enterBoth enter putInOrder withoutContaining hasInside latestDeparture earliestArrival later sooner stands holds cellsChanged sumBelow countBelow sameCell held heldContacts logWords writeRefusal writeAnswer writeLeaves
 rejected =
     record {
       leaves-table = λ d. (let w : _≡_ {A = ℕ} 0xC000_0000 0xC000_0001 = same-word leavesTable d refl (contact 0 2 1 ∷ []) 7 in omega arith);

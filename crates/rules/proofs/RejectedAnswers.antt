@@ -17,14 +17,14 @@ use Rattle.rules.specs.declared.TickAnswer.{TickAnswer}
 use Rattle.rules.specs.declared.TickAnswer.the-variants.{At, Nothing, Refused as TickRefused}
 use Rattle.rules.specs.Folds.{flat, allBelow, sumBelow, countBelow}
 use Rattle.rules.specs.Layout.{cellWords, tableWords, cellAt, cellOf, cellsOf}
-use Rattle.rules.specs.Checks.{isOpen, fineRow, fineRows, allUnused, fineCell, wellFormed}
+use Rattle.rules.specs.Checks.{isOpen, rowWellFormed, rowsWellFormed, allUnused, cellWellFormed, wellFormed}
 use Rattle.rules.specs.Opening.{openRefusal, openLeaves}
 use Rattle.rules.specs.Adding.{stands, addRefusal, addedCells, addLeaves}
 use Rattle.rules.specs.Adding as Adding
 use Rattle.rules.specs.Chains.{departureWith, leads, lowest, chainFrom, chainOf, chainRefusal, chainLeaves}
 use Rattle.rules.specs.Questions.{reaches, reachRefusal, reachAnswer, momentRefusal, earliestAnswer, connects, connectedRefusal, connectedAnswer, isReached, setWord, setWords, reachedRefusal, reachedWords, reachedCount}
 use Rattle.rules.specs.Fresh.{Fresh}
-use Rattle.rules.specs.Demand3.{engine, run, tableAfter, LegalOf}
+use Rattle.rules.specs.CallLists.{engine, run, tableAfter, LegalOf}
 use Rattle.rules.specs.Fitting.{IsWindow, IsPair}
 use Rattle.rules.specs.Demand2.{Questions, questions, Demand2, BitSet}
 use Rattle.rules.specs.WrongAnswers.{alwaysNo, alwaysYes, endsLater, beginsLater, neverArrives, alwaysConnected, reachesNobody, countsNobody, firstOf, chainFromOf, downFrom, neverChained, highestAnimal, loadingOrder, RejectedAnswers}
@@ -122,7 +122,7 @@ ticked Nothing = 0
 ticked (TickRefused r) = 0
 
 pub rejected-answers : RejectedAnswers
-unfolding openLeaves openRefusal tableWords flat cellWords run addLeaves addRefusal isOpen isOf wellFormed allBelow fineCell fineRows fineRow allUnused cellsOf cellAt cellOf addedCells add departureOf arrivalOf enterBoth enter putInOrder withoutContaining hasInside latestDeparture earliestArrival later sooner reaches reachRefusal reachAnswer momentRefusal earliestAnswer connects connectedRefusal connectedAnswer isReached setWord setWords sumBelow reachedRefusal reachedWords departureWith leads lowest chainFrom chainOf chainRefusal chainLeaves firstOf chainFromOf downFrom stands Adding.holds
+unfolding openLeaves openRefusal tableWords flat cellWords run addLeaves addRefusal isOpen isOf wellFormed allBelow cellWellFormed rowsWellFormed rowWellFormed allUnused cellsOf cellAt cellOf addedCells add departureOf arrivalOf enterBoth enter putInOrder withoutContaining hasInside latestDeparture earliestArrival later sooner reaches reachRefusal reachAnswer momentRefusal earliestAnswer connects connectedRefusal connectedAnswer isReached setWord setWords sumBelow reachedRefusal reachedWords departureWith leads lowest chainFrom chainOf chainRefusal chainLeaves firstOf chainFromOf downFrom stands Adding.holds
 rejected-answers =
     record {
       always-no = λ d. (let z : _≡_ {A = ℕ} 2 1 = ap told (same-reach alwaysNo d 1 2 (windowed 1 2 (omega arith) (omega arith) (omega arith)) .1 refl) in omega arith);

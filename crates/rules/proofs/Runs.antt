@@ -11,7 +11,7 @@ use Rattle.rules.specs.declared.Refusal.{Refusal}
 use Rattle.rules.specs.Opening.{openRefusal, openLeaves}
 use Rattle.rules.specs.Adding.{Legal, addRefusal, addLeaves}
 use Rattle.rules.specs.Fresh.{Fresh}
-use Rattle.rules.specs.Demand3.{Engine, engine, run, LegalOf}
+use Rattle.rules.specs.CallLists.{Engine, engine, run, LegalOf}
 use Rattle.rules.proofs.Judged.{none-some}
 use Rattle.rules.proofs.Fresh.{fresh-accepts, add-fresh, fresh-map, open-fresh}
 

@@ -5,11 +5,11 @@ use Rattle.journeys.specs.Adding.{departureOf, arrivalOf, enterBoth, add}
 use Rattle.words.specs.Layout.{isOf}
 use Rattle.rules.specs.Folds.{flat, allBelow}
 use Rattle.rules.specs.Layout.{cellWords, tableWords, cellAt, cellOf, cellsOf}
-use Rattle.rules.specs.Checks.{isOpen, fineRow, fineRows, allUnused, fineCell, wellFormed}
+use Rattle.rules.specs.Checks.{isOpen, rowWellFormed, rowsWellFormed, allUnused, cellWellFormed, wellFormed}
 use Rattle.rules.specs.Opening.{openRefusal, openLeaves}
 use Rattle.rules.specs.Adding.{stands, addRefusal, addedCells, addLeaves, holds}
 use Rattle.rules.specs.Logs.{held, heldContacts}
-use Rattle.rules.specs.Demand3.{run}
+use Rattle.rules.specs.CallLists.{run}
 use Rattle.rules.specs.Reading.{between, loggedContacts, isTrueEnd, isLegal, logWord, ensureWords, readRefusal, readAnswer, readLeaves}
 use Rattle.rules.specs.Sheet.{wordsOf, decimalWithin, intervalText, intervalsText, cellText, firstLine, tableText, isBeyond, logText, sheetText}
 use Rattle.rules.specs.Session.{sessionBytes, sessionText}
@@ -18,6 +18,6 @@ pub session-printed : sheetText sessionBytes ≡ sessionText
 unfolding
     sheetText wordsOf isBeyond logText readAnswer readLeaves readRefusal between loggedContacts isTrueEnd isLegal logWord ensureWords
     tableText firstLine cellText intervalsText intervalText decimalWithin heldContacts held run openRefusal openLeaves addRefusal addedCells addLeaves holds stands
-    isOpen fineRow fineRows allUnused fineCell wellFormed flat allBelow cellWords tableWords cellAt cellOf cellsOf isOf add enterBoth departureOf arrivalOf
+    isOpen rowWellFormed rowsWellFormed allUnused cellWellFormed wellFormed flat allBelow cellWords tableWords cellAt cellOf cellsOf isOf add enterBoth departureOf arrivalOf
     later sooner latestDeparture earliestArrival hasInside withoutContaining putInOrder enter
 session-printed = refl

@@ -7,12 +7,12 @@ use Prim.Native.Nat.{ℕ, zero, suc, _≤_, _<_}
 use native.Mathlib.Omega.{arith}
 use Rattle.rules.specs.Folds.{flat}
 use Rattle.journeys.specs.Journey.{Contact}
-use Rattle.rules.specs.Demand3.{First, Sorted, Earlier, Pair, Lower}
+use Rattle.rules.specs.Orders.{BeforeHead, Sorted, Earlier, Pair, Lower}
 use Rattle.rules.proofs.Folds.{member-flat}
 use Rattle.rules.proofs.Distinct.{Once}
 
 module _ {A : Type 0} (R : A → A → Type 0) where
-  first-append : (a : A) (l m : List A) → First R a l → ((b : A) → List·Memᴰ b m → R a b) → First R a (l ++ m)
+  first-append : (a : A) (l m : List A) → BeforeHead R a l → ((b : A) → List·Memᴰ b m → R a b) → BeforeHead R a (l ++ m)
   first-append a [] [] h f = tt
   first-append a [] (b ∷ m) h f = f b (List·Memᴰ·head refl)
   first-append a (b ∷ l) m h f = h

@@ -20,9 +20,8 @@ use Rattle.words.proofs.Packed.{intervalWord-of, openingWord-of, animalsOf-boun
 use Rattle.rules.specs.Folds.{flat, allBelow}
 use Rattle.rules.specs.Layout.{tableLength, cellWords, tableWords, animals, ticks, carry, cellAt, cellOf, cellsOf}
 use Rattle.rules.specs.Opening.{Sizes}
-use Rattle.rules.specs.Checks.{isOpen, fineRow, fineRows, allUnused, fineCell, wellFormed, Passes}
+use Rattle.rules.specs.Checks.{isOpen, rowWellFormed, rowsWellFormed, allUnused, cellWellFormed, wellFormed, ValidTable, WellFormedBelow}
 use Rattle.rules.proofs.Folds.{and-left, and-right, below-all, part-inside, body-parts, flat-same}
-use Rattle.rules.proofs.Decode.{Good}
 
 -- ---- a cell
 
@@ -33,8 +32,8 @@ module _ (τ δ : ℕ) where
     pub after : (p < get departureField w) × (q < get arrivalField w)
     pub limits : Limits τ δ (intervalOf w)
 
-  fine-row : (p q w : ℕ) → fineRow τ δ p q w ≡ true → FineRow p q w
-  unfolding fineRow
+  fine-row : (p q w : ℕ) → rowWellFormed τ δ p q w ≡ true → FineRow p q w
+  unfolding rowWellFormed
   fine-row p q w e₅ =
       let d = get departureField w in
       let a = get arrivalField w in
@@ -68,12 +67,12 @@ module _ (τ δ : ℕ) where
     pub limits : (j : Interval) → List·Memᴰ j (map intervalOf ws) → Limits τ δ j
     pub words : map intervalWord (map intervalOf ws) ≡ ws
 
-  fine-rows : (i : Interval) (ws : List ℕ) → fineRows τ δ (i .departure) (i .arrival) ws ≡ true → FineRows i ws
-  unfolding fineRows
+  fine-rows : (i : Interval) (ws : List ℕ) → rowsWellFormed τ δ (i .departure) (i .arrival) ws ≡ true → FineRows i ws
+  unfolding rowsWellFormed
   fine-rows i [] e = record { rising = (tt, tt); limits = λ j m. absurd (List·Memᴰ·not-nil m); words = refl }
   fine-rows i (w ∷ ws) e =
-      let r = fine-row (i .departure) (i .arrival) w (and-left (fineRow τ δ (i .departure) (i .arrival) w) _ e) in
-      let s = fine-rows (intervalOf w) ws (and-right (fineRow τ δ (i .departure) (i .arrival) w) _ e) in
+      let r = fine-row (i .departure) (i .arrival) w (and-left (rowWellFormed τ δ (i .departure) (i .arrival) w) _ e) in
+      let s = fine-rows (intervalOf w) ws (and-right (rowWellFormed τ δ (i .departure) (i .arrival) w) _ e) in
       record {
         rising = (r .after, s .rising);
         limits = λ j m. ⊎-elim (λ q. subst (Limits τ δ) (sym q) (r .limits)) (s .limits j) (List·Memᴰ·cases-cons m);
@@ -91,8 +90,8 @@ module _ (τ δ : ℕ) where
     pub small : length (cellOf xs) ≤ m
     pub words : xs ≡ cellWords τ (cellOf xs)
 
-  pub fine-cell : (m : ℕ) (xs : List ℕ) → m ≤ τ → length xs ≡ τ + 1 → fineCell τ δ m xs ≡ true → FineCell m xs
-  unfolding fineCell cellOf cellWords
+  pub fine-cell : (m : ℕ) (xs : List ℕ) → m ≤ τ → length xs ≡ τ + 1 → cellWellFormed τ δ m xs ≡ true → FineCell m xs
+  unfolding cellWellFormed cellOf cellWords
   fine-cell m [] h l e = absurd (omega arith)
   fine-cell m (w ∷ ws) h l e = record { formed = record { rising = r .rising .1; limits = r .limits }; small = omega (arith, k, n); words = words }
     where
@@ -106,16 +105,16 @@ module _ (τ δ : ℕ) where
       b₂ = b₁ && leb count m
 
       b₃ : Bool
-      b₃ = b₂ && fineRows τ δ 0 0 (take count ws)
+      b₃ = b₂ && rowsWellFormed τ δ 0 0 (take count ws)
 
       e₃ : b₃ ≡ true
       e₃ = and-left b₃ (allUnused (drop count ws)) e
 
       e₂ : b₂ ≡ true
-      e₂ = and-left b₂ (fineRows τ δ 0 0 (take count ws)) e₃
+      e₂ = and-left b₂ (rowsWellFormed τ δ 0 0 (take count ws)) e₃
 
       r : FineRows (interval 0 0) (take count ws)
-      r = fine-rows (interval 0 0) (take count ws) (and-right b₂ (fineRows τ δ 0 0 (take count ws)) e₃)
+      r = fine-rows (interval 0 0) (take count ws) (and-right b₂ (rowsWellFormed τ δ 0 0 (take count ws)) e₃)
 
       k : count ≤ m
       k = leb-true count m (and-right b₁ (leb count m) e₂)
@@ -165,7 +164,7 @@ pub opens-length : (T : List ℕ) → isOpen T ≡ true → length T ≡ tableLe
 unfolding isOpen
 opens-length T e = eqb-true (length T) (tableLength (animals T) (ticks T)) (and-right (isOf openingLayout (getD T 0 0)) _ e)
 
-module _ (T : List ℕ) (p : Passes T) where
+module _ (T : List ℕ) (p : ValidTable T) where
   abbrev n : ℕ
   n = animals T
 
@@ -182,11 +181,11 @@ module _ (T : List ℕ) (p : Passes T) where
       let b = part-inside (x * n + y) (n * n) (τ + 1) (omega (arith, a)) in
       length-take-le (τ + 1) (drop (1 + (x * n + y) * (τ + 1)) T) (omega (arith, b, opens-length T (p .opens), length-drop (1 + (x * n + y) * (τ + 1)) T))
 
-  part-fine : (x y : ℕ) → x < n → y < n → fineCell τ δ (cond (eqb x y) 0 τ) (cellAt n τ T x y) ≡ true
+  part-fine : (x y : ℕ) → x < n → y < n → cellWellFormed τ δ (cond (eqb x y) 0 τ) (cellAt n τ T x y) ≡ true
   unfolding wellFormed
   part-fine x y h k =
-      below-all (λ y. fineCell τ δ (cond (eqb x y) 0 τ) (cellAt n τ T x y)) n
-      (below-all (λ x. allBelow (λ y. fineCell τ δ (cond (eqb x y) 0 τ) (cellAt n τ T x y)) n) n (p .formed) x h) y k
+      below-all (λ y. cellWellFormed τ δ (cond (eqb x y) 0 τ) (cellAt n τ T x y)) n
+      (below-all (λ x. allBelow (λ y. cellWellFormed τ δ (cond (eqb x y) 0 τ) (cellAt n τ T x y)) n) n (p .formed) x h) y k
 
   most-rows : (b : Bool) → cond b 0 τ ≤ τ
   most-rows true = omega arith
@@ -201,7 +200,7 @@ module _ (T : List ℕ) (p : Passes T) where
   part-words x y h k = part-cell x y h k .words
 
   -- The cells are well formed, and each (x, x) is empty.
-  pub passes-good : Good n τ δ (cellsOf T)
+  pub passes-good : WellFormedBelow n τ δ (cellsOf T)
   unfolding cellsOf
   passes-good =
       record {

@@ -1,18 +1,9 @@
 -- The rule of the chain, said over a set S of contacts: which chain is shown.
-use Prim.Native.Nat.{ℕ, _+_, _≤_, _<_}
+use Prim.Native.Nat.{ℕ, _+_, _≤_}
 use mathlib.Core.Path.{_≡_}
-use mathlib.Core.Logic.{_↔_, _⊎_, _≢_}
-use mathlib.Core.List.{List, [], _∷_, map, List·Memᴰ}
-use mathlib.Core.Option.{Option, some}
-use lib.ListN.{length}
+use mathlib.Core.Logic.{_⊎_, _≢_}
+use mathlib.Core.List.{List, [], _∷_}
 use Rattle.journeys.specs.Journey.{Contact, contact, Contacts, Interval, interval, Journey}
-use Rattle.words.specs.Words.{contactWord}
-use Rattle.rules.specs.Fresh.{Fresh}
-use Rattle.rules.specs.Fitting.{IsWindow, IsPair}
-use Rattle.rules.specs.declared.AskAnswer.the-variants.{Yes}
-use Rattle.rules.specs.Questions.{reachAnswer}
-use Rattle.rules.specs.Chains.{chainOf}
-use Rattle.rules.specs.Claims.{claimedAnswer}
 
 module _ (S : Contacts) (δ goal b : ℕ) where
   -- A journey from z to the goal leaves at or after a and arrives at b.
@@ -54,25 +45,3 @@ pub record NamedChain (S : Contacts) (δ u v first last : ℕ) (l : List Contact
   pub earliest : (i : Interval) → Journey S δ u v i → first ≤ i .departure → i .arrival ≤ last → arrival ≤ i .arrival
   pub latest : (p : ℕ) → first ≤ p → Journey S δ u v (interval p arrival) → p ≤ departure
   pub chain : IsChain S δ v arrival u departure l
-
--- No number comes twice.
-abbrev pub Distinct : List ℕ → Type 0
-Distinct [] = Unit {0}
-Distinct (a ∷ l) = (¬ List·Memᴰ a l) × Distinct l
-
--- The animals that the contacts of a chain leave from.
-abbrev pub leavers : List Contact → List ℕ
-leavers [] = []
-leavers (k ∷ l) = k .from ∷ leavers l
-
--- What else holds of the chain named on a fresh table.
-pub record NamedChains : Type 1 where
-  -- No animal comes twice, the goal among them, so n−1 words are always enough.
-  pub no-animal-twice : (n τ δ : ℕ) (S : Contacts) (T : List ℕ) → Fresh n τ δ S T → (u v first last : ℕ) → IsPair n u v → (l : List Contact) → NamedChain S δ u v first last l → Distinct (v ∷ leavers l)
-  pub enough : (n τ δ : ℕ) (S : Contacts) (T : List ℕ) → Fresh n τ δ S T → (u v first last : ℕ) → IsPair n u v → (l : List Contact) → NamedChain S δ u v first last l → length l + 1 ≤ n
-  -- The chain shown, claimed, is answered yes.
-  pub claimed : (n τ δ : ℕ) (S : Contacts) (T : List ℕ) → Fresh n τ δ S T → (u v first last : ℕ) → IsPair n u v → IsWindow τ δ first last → (l : List Contact) → NamedChain S δ u v first last l
-      → claimedAnswer T u v first last (map contactWord l) ≡ Yes
-  -- A chain is given exactly when reach says yes.
-  pub given-when : (n τ δ : ℕ) (S : Contacts) (T : List ℕ) → Fresh n τ δ S T → (u v first last : ℕ) → IsPair n u v → IsWindow τ δ first last
-      → (reachAnswer T u v first last ≡ Yes) ↔ ((l : List Contact) × (chainOf T u v first last ≡ some l))

@@ -58,16 +58,16 @@ lowest f zero = nobody
 lowest f (suc m) = orElse (lowest f m) m (f m)
 
 -- The contact before the rest of a chain, if there is one.
-abbrev pub before : Contact → Option (List Contact) → Option (List Contact)
-before k none = none
-before k (some l) = some (k ∷ l)
+abbrev pub prepend : Contact → Option (List Contact) → Option (List Contact)
+prepend k none = none
+prepend k (some l) = some (k ∷ l)
 
 -- The chain that leaves x at d for the animal found; `rest` gives the chain from an animal with its departure.
 abbrev pub follow : ℕ → ℕ → Lowest → (ℕ → ℕ → Option (List Contact)) → Option (List Contact)
 follow x d nobody rest = none
 follow x d (animal z nowhere) rest = none
 follow x d (animal z there) rest = some (contact x z d ∷ [])
-follow x d (animal z (onward e)) rest = before (contact x z d) (rest z e)
+follow x d (animal z (onward e)) rest = prepend (contact x z d) (rest z e)
 
 -- The chain from x with departure d to the goal with arrival b, of at most `most` contacts; none where it sticks or
 -- needs more.

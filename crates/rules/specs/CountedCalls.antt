@@ -8,30 +8,31 @@ use lib.ListN.{length}
 use Rattle.journeys.specs.Journey.{Contact}
 use Rattle.rules.specs.declared.Tally.{Tally}
 use Rattle.rules.specs.Fresh.{Fresh}
-use Rattle.rules.specs.Demand3.{Sorted, Earlier, LegalOf}
+use Rattle.rules.specs.CallLists.{LegalOf}
+use Rattle.rules.specs.Orders.{Sorted, Earlier}
 use Rattle.rules.specs.Counting.{tallySum, hasRoom, countedTally, countedLeaves}
 
 -- A tally and a table.
-pub record Kept : Type 0 where
+pub record TallyAndTable : Type 0 where
   pub tally : Tally
   pub table : List ℕ
 
 -- What a counted call leaves.
-abbrev pub countedCall : Kept → Contact → Kept
+abbrev pub countedCall : TallyAndTable → Contact → TallyAndTable
 countedCall s k = record { tally = countedTally (s .tally) (s .table) k; table = countedLeaves (s .tally) (s .table) k }
 
 -- What a list of counted calls leaves.
-unfoldable pub runCounted : Kept → List Contact → Kept
+unfoldable pub runCounted : TallyAndTable → List Contact → TallyAndTable
 runCounted s [] = s
 runCounted s (k ∷ A) = runCounted (countedCall s k) A
 
 -- The calls of the list that are not refused with 16, in their order.
-unfoldable pub counted : Kept → List Contact → List Contact
+unfoldable pub counted : TallyAndTable → List Contact → List Contact
 counted s [] = []
 counted s (k ∷ A) = cond (hasRoom (s .tally)) (k ∷ counted (countedCall s k) A) (counted (countedCall s k) A)
 
 -- A zero tally beside a table.
-abbrev pub zeroTally : List ℕ → Kept
+abbrev pub zeroTally : List ℕ → TallyAndTable
 zeroTally T = record { tally = record { new = 0; known = 0; refused = 0 }; table = T }
 
 -- "From a zero tally and a fresh table, after counted adds only": T is fresh over no contacts, A is any list of calls.

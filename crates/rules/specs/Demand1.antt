@@ -17,7 +17,7 @@ use Rattle.rules.specs.declared.ReadAnswer.the-variants.{Read, Refused a
 use Rattle.rules.specs.declared.SetAnswer.the-variants.{Refused as SetRefused}
 use Rattle.rules.specs.declared.ChainAnswer.the-variants.{Refused as ChainRefused}
 use Rattle.rules.specs.Layout.{animals, ticks}
-use Rattle.rules.specs.Checks.{Passes}
+use Rattle.rules.specs.Checks.{ValidTable}
 use Rattle.rules.specs.Opening.{openAnswer, openLeaves}
 use Rattle.rules.specs.Adding.{Legal, addAnswer, addLeaves}
 use Rattle.rules.specs.Logs.{writeAnswer, writeLeaves}
@@ -55,9 +55,9 @@ pub record Demand1 : Type 0 where
   pub list-length : (T : List ℕ) (l : List Question) → length (listLeaves T l) ≡ length l
   pub chain-length : (T : List ℕ) (u v first last : ℕ) (B : List ℕ) → length (chainLeaves T u v first last B) ≡ length B
   -- Opening, reading a log, and every add on a table that passes 5 and 6, leave a table that passes them.
-  pub open-passes : (n τ δ : ℕ) (T : List ℕ) → openAnswer n τ δ T ≡ Opened → Passes (openLeaves n τ δ T)
-  pub read-passes : (L T : List ℕ) (k : ℕ) → readAnswer L T ≡ Read k → Passes (readLeaves L T)
-  pub add-passes : (T : List ℕ) (k : Contact) → Passes T → Passes (addLeaves T k)
+  pub open-valid : (n τ δ : ℕ) (T : List ℕ) → openAnswer n τ δ T ≡ Opened → ValidTable (openLeaves n τ δ T)
+  pub read-valid : (L T : List ℕ) (k : ℕ) → readAnswer L T ≡ Read k → ValidTable (readLeaves L T)
+  pub add-valid : (T : List ℕ) (k : Contact) → ValidTable T → ValidTable (addLeaves T k)
   -- "Once a table is opened, no legal contact is refused for want of a row": on any table that passes 5 and 6 a legal
   -- contact is accepted.
-  pub legal-accepted : (T : List ℕ) (k : Contact) → Passes T → Legal (animals T) (ticks T) k → (r : Refusal) → addAnswer T k ≡ AddRefused r → ⊥
+  pub legal-accepted : (T : List ℕ) (k : Contact) → ValidTable T → Legal (animals T) (ticks T) k → (r : Refusal) → addAnswer T k ≡ AddRefused r → ⊥

@@ -5,6 +5,7 @@ use mathlib.Core.Logic.{_↔_, _≢_}
 use mathlib.Core.List.{List, _++_, map, List·Memᴰ}
 use lib.ListN.{length, getD, drop}
 use Rattle.journeys.specs.Journey.{Contact, Contacts, Interval, interval, Journey, Minimal}
+use Rattle.rules.specs.Limits.{maxAnimals}
 use Rattle.rules.specs.declared.AskAnswer.{AskAnswer}
 use Rattle.rules.specs.declared.AskAnswer.the-variants.{Yes, No}
 use Rattle.rules.specs.declared.TickAnswer.{TickAnswer}
@@ -17,7 +18,7 @@ use Rattle.rules.specs.declared.ChainAnswer.the-variants.{Chain, NoJourn
 use Rattle.rules.specs.Layout.{cellsOf}
 use Rattle.rules.specs.Questions.{reachAnswer, earliestAnswer, latestAnswer, connectedAnswer, reachedAnswer, reachedWords, reachedCount}
 use Rattle.rules.specs.Fresh.{Fresh}
-use Rattle.rules.specs.Demand3.{Sorted}
+use Rattle.rules.specs.Orders.{Sorted}
 use Rattle.rules.specs.Fitting.{IsWindow, IsPair, Fits}
 use Rattle.rules.specs.Chains.{chainAnswer, chainLeaves}
 use Rattle.rules.specs.ChainRule.{NamedChain}
@@ -110,7 +111,7 @@ pub record Demand2 (Q : Questions) : Type 1 where
   pub reached-found : (n τ δ : ℕ) (S : Contacts) (T : List ℕ) → Fresh n τ δ S T → (u first last : ℕ) → u < n → IsWindow τ δ first last → Q .reached T u first last ≡ Found
   pub reached-eight : (T : List ℕ) (u first last : ℕ) → length (Q .reached-words T u first last) ≡ 8
   pub reached-bit : (n τ δ : ℕ) (S : Contacts) (T : List ℕ) → Fresh n τ δ S T → (u first last : ℕ) → u < n → IsWindow τ δ first last
-      → (i : ℕ) → i < 256 → BitSet (Q .reached-words T u first last) i ↔ ReachedFrom S δ n u first last i
+      → (i : ℕ) → i < maxAnimals → BitSet (Q .reached-words T u first last) i ↔ ReachedFrom S δ n u first last i
   pub reached-count : (n τ δ : ℕ) (S : Contacts) (T : List ℕ) → Fresh n τ δ S T → (u first last : ℕ) → u < n → IsWindow τ δ first last
       → (l : List ℕ) × Sorted _<_ l × ((i : ℕ) → List·Memᴰ i l ↔ ReachedFrom S δ n u first last i) × (Q .reached-count T u first last ≡ length l)
   -- "The chain shown for a yes is the one that document 01's rule names": a chain is named exactly when a journey fits,

@@ -1,89 +1,23 @@
 -- Demand 3 of the tender, as one statement about two whole lists of calls, with its own words above its parts.
 use Prim.Native.Nat.{ℕ, _+_, _≤_, _<_}
 use mathlib.Core.Path.{_≡_}
-use mathlib.Core.Logic.{_↔_, _⊎_, _≢_}
-use mathlib.Core.List.{List, [], _∷_, _++_, List·Memᴰ}
+use mathlib.Core.Logic.{_↔_, _≢_}
+use mathlib.Core.List.{List, _∷_, _++_, List·Memᴰ}
 use lib.ListN.{length, drop}
 use Rattle.journeys.specs.Journey.{Contact, Contacts, With, Same, Interval, Minimal}
 use Rattle.words.specs.Words.{openingWord}
-use Rattle.rules.specs.declared.Refusal.{Refusal}
-use Rattle.rules.specs.declared.OpenAnswer.{OpenAnswer}
 use Rattle.rules.specs.declared.OpenAnswer.the-variants.{Opened}
-use Rattle.rules.specs.declared.AddAnswer.{AddAnswer}
-use Rattle.rules.specs.declared.AddAnswer.the-variants.{New, Known, Refused as AddRefused}
-use Rattle.rules.specs.declared.WriteAnswer.{WriteAnswer}
+use Rattle.rules.specs.declared.AddAnswer.the-variants.{New, Known}
 use Rattle.rules.specs.declared.WriteAnswer.the-variants.{Written}
 use Rattle.rules.specs.Layout.{tableLength, cellAt}
-use Rattle.rules.specs.Opening.{Sizes, openAnswer, openLeaves}
-use Rattle.rules.specs.Adding.{Legal, addAnswer, addLeaves}
-use Rattle.rules.specs.Logs.{logWords, writeAnswer, writeLeaves}
+use Rattle.rules.specs.Opening.{Sizes}
+use Rattle.rules.specs.Adding.{Legal}
+use Rattle.rules.specs.Logs.{logWords}
 use Rattle.rules.specs.Fresh.{Fresh}
-
--- ---- the calls
-
--- What opening, uncounted adding and log writing answer, and the words that they leave. A contact call is any three numbers.
-pub record Engine : Type 0 where
-  pub open-answer : ℕ → ℕ → ℕ → List ℕ → OpenAnswer
-  pub open-leaves : ℕ → ℕ → ℕ → List ℕ → List ℕ
-  pub add-answer : List ℕ → Contact → AddAnswer
-  pub add-leaves : List ℕ → Contact → List ℕ
-  pub write-answer : List ℕ → List ℕ → WriteAnswer
-  pub write-leaves : List ℕ → List ℕ → List ℕ
-
--- The engine of document 01: the definitions that the contracts of the three calls cite.
-abbrev pub engine : Engine
-engine =
-    record {
-      open-answer = openAnswer;
-      open-leaves = openLeaves;
-      add-answer = addAnswer;
-      add-leaves = addLeaves;
-      write-answer = writeAnswer;
-      write-leaves = writeLeaves;
-    }
-
--- A list of calls run on a table: each call takes the table as the last one left it.
-unfoldable pub run : Engine → List ℕ → List Contact → List ℕ
-run E T [] = T
-run E T (k ∷ A) = run E (E .add-leaves T k) A
-
--- The table that a list of calls leaves, run on a table freshly opened over some words.
-abbrev pub tableAfter : Engine → ℕ → ℕ → ℕ → List ℕ → List Contact → List ℕ
-tableAfter E n τ δ words A = run E (E .open-leaves n τ δ words) A
+use Rattle.rules.specs.CallLists.{Engine, tableAfter, LegalOf, Accepted}
+use Rattle.rules.specs.Orders.{Sorted, Earlier, Pair, Lower}
 
 -- ---- the words of the demand
-
--- The legal contacts of a list of calls, as a set.
-abbrev pub LegalOf : ℕ → ℕ → List Contact → Contacts
-LegalOf n τ A k = List·Memᴰ k A × Legal n τ k
-
--- The call is accepted: its answer is no refusal.
-abbrev pub Accepted : AddAnswer → Type 0
-Accepted (New k) = Unit {0}
-Accepted (Known k) = Unit {0}
-Accepted (AddRefused r) = ⊥
-
--- Each element stands in the order R before the next.
-abbrev pub First : {A : Type 0} → (A → A → Type 0) → A → List A → Type 0
-First R a [] = Unit {0}
-First R a (b ∷ l) = R a b
-
-abbrev pub Sorted : {A : Type 0} → (A → A → Type 0) → List A → Type 0
-Sorted R [] = Unit {0}
-Sorted R (a ∷ l) = First R a l × Sorted R l
-
--- By t, then u, then v: strictly, so that a sorted list has each contact once.
-abbrev pub Earlier : Contact → Contact → Type 0
-Earlier k c = (k .tick < c .tick) ⊎ ((k .tick ≡ c .tick) × ((k .from < c .from) ⊎ ((k .from ≡ c .from) × (k .to < c .to))))
-
--- An ordered pair of animals.
-pub record Pair : Type 0 where
-  pub from : ℕ
-  pub to : ℕ
-
--- By u, then v: strictly, so that a sorted list has each pair once.
-abbrev pub Lower : Pair → Pair → Type 0
-Lower p q = (p .from < q .from) ⊎ ((p .from ≡ q .from) × (p .to < q .to))
 
 -- The contact leaves the minimal intervals of the pair as they are.
 abbrev pub SameMinimal : Contacts → ℕ → Contact → ℕ → ℕ → Type 0

@@ -7,7 +7,9 @@ use lib.ListN.{length}
 use Rattle.journeys.specs.Journey.{Contact}
 use Rattle.rules.specs.declared.OpenAnswer.the-variants.{Opened}
 use Rattle.rules.specs.Adding.{Legal}
-use Rattle.rules.specs.Demand3.{Engine, tableAfter, LegalOf, Accepted, Sorted, Earlier, Demand3}
+use Rattle.rules.specs.CallLists.{Engine, tableAfter, LegalOf, Accepted}
+use Rattle.rules.specs.Orders.{Sorted, Earlier}
+use Rattle.rules.specs.Demand3.{Demand3}
 
 -- Two engines agree on what list A leaves, on a table opened over some words, and on the calls that follow.
 pub record AgreeAfter (E F : Engine) (n τ δ : ℕ) (words : List ℕ) (A : List Contact) : Type 0 where

@@ -16,7 +16,7 @@ use Rattle.rules.specs.Layout.{tableLength, cellsOf}
 use Rattle.rules.specs.Adding.{sameCell}
 use Rattle.rules.specs.Questions.{reachAnswer, earliestAnswer, latestAnswer}
 use Rattle.rules.specs.Chains.{chainOf}
-use Rattle.rules.specs.Demand3.{engine, tableAfter}
+use Rattle.rules.specs.CallLists.{engine, tableAfter}
 
 -- A question with its expected answer.
 pub data Row : Type 0 where
@@ -35,21 +35,21 @@ Says T (asks-chain u v first last l) = chainOf T u v first last ≡ some l
 Says T (asks-cell u v c) = cellsOf T u v ≡ c
 
 -- A table given by its opening and its contacts, with the rows about it.
-pub record Sheet : Type 0 where
+pub record ExampleTable : Type 0 where
   pub animals : ℕ
   pub ticks : ℕ
   pub carry : ℕ
   pub contacts : List Contact
   pub rows : List Row
 
-abbrev pub sheetTable : Sheet → List ℕ
-sheetTable s = tableAfter engine (s .animals) (s .ticks) (s .carry) (replicate (tableLength (s .animals) (s .ticks)) 0) (s .contacts)
+abbrev pub exampleTable : ExampleTable → List ℕ
+exampleTable s = tableAfter engine (s .animals) (s .ticks) (s .carry) (replicate (tableLength (s .animals) (s .ticks)) 0) (s .contacts)
 
 abbrev session : List Contact
 session = contact 0 1 1 ∷ contact 0 1 2 ∷ contact 1 3 4 ∷ []
 
 -- P1 to P9.
-abbrev pub marked : List Sheet
+abbrev pub marked : List ExampleTable
 marked =
     record {
       animals = 4;
@@ -86,4 +86,4 @@ marked =
 
 -- Every row of every sheet holds.
 abbrev pub Marked : Type 0
-Marked = (s : Sheet) → List·Memᴰ s marked → (r : Row) → List·Memᴰ r (s .rows) → Says (sheetTable s) r
+Marked = (s : ExampleTable) → List·Memᴰ s marked → (r : Row) → List·Memᴰ r (s .rows) → Says (exampleTable s) r

@@ -16,7 +16,7 @@ use Rattle.rules.specs.Answers.{numberOf}
 use Rattle.rules.specs.Layout.{tableLength}
 use Rattle.rules.specs.Checks.{ensureTable}
 use Rattle.rules.specs.Questions.{reachAnswer}
-use Rattle.rules.specs.Demand3.{engine, tableAfter}
+use Rattle.rules.specs.CallLists.{engine, tableAfter}
 use Rattle.rules.specs.QuestionList.{listAnswer, listLeaves}
 
 -- The record r is q filled: its question is that of q, and its answer is what a single reach answers, a refusal by its number.

@@ -1,11 +1,12 @@
 -- What reading a log means, and what the sheets of two logs have in common.
-use Prim.Native.Nat.{ℕ, _+_, _%_, _^_, _≤_, _<_}
+use Prim.Native.Nat.{ℕ, _+_, _%_, _≤_, _<_}
 use mathlib.Core.Path.{_≡_}
 use mathlib.Core.Logic.{_↔_}
 use mathlib.Core.List.{List, List·Memᴰ}
 use lib.ListN.{length, take}
 use Rattle.journeys.specs.Journey.{Contact, Contacts, Same, In}
-use Rattle.words.specs.Words.{openingWord}
+use Rattle.words.specs.Layout.{capacity}
+use Rattle.words.specs.Words.{openingWord, loggedField}
 use Rattle.rules.specs.declared.ReadAnswer.the-variants.{Read}
 use Rattle.rules.specs.declared.WriteAnswer.the-variants.{Written}
 use Rattle.rules.specs.Layout.{tableLength}
@@ -13,16 +14,16 @@ use Rattle.rules.specs.Opening.{Sizes}
 use Rattle.rules.specs.Adding.{Legal}
 use Rattle.rules.specs.Logs.{logWords, writeAnswer, writeLeaves}
 use Rattle.rules.specs.Fresh.{Fresh}
-use Rattle.rules.specs.Demand3.{Sorted, Earlier}
+use Rattle.rules.specs.Orders.{Sorted, Earlier}
 use Rattle.rules.specs.Reading.{readAnswer, readLeaves}
 use Rattle.rules.specs.Sheet.{mostBytes, wordsOf, sheetText}
 
 -- L is a log of the legal contacts l: an opening word, contact words in any order with repeats allowed, and an end word
--- with their number, for which it has 26 bits.
+-- with their number, which fits its field.
 pub record IsLog (n τ δ : ℕ) (l : List Contact) (L : List ℕ) : Type 0 where
   pub sizes : Sizes n τ δ
   pub legal : (k : Contact) → List·Memᴰ k l → Legal n τ k
-  pub few : length l < 2 ^ 26
+  pub few : length l < capacity loggedField
   pub words : L ≡ logWords (openingWord n τ δ) l
 
 pub record LogsRead : Type 1 where

@@ -8,19 +8,10 @@ use Rattle.journeys.specs.Adding.{Cells}
 use Rattle.rules.specs.declared.Refusal.{Refusal}
 use Rattle.rules.specs.declared.Refusal.the-variants.{AnimalsBeyondLimit, TicksBeyondLimit, CarryBeyondLimit, WrongLength}
 use Rattle.rules.specs.declared.OpenAnswer.{OpenAnswer}
+use Rattle.rules.specs.Limits.{maxAnimals, maxTicks, maxCarry}
 use Rattle.rules.specs.Answers.{ensure, unless, openAnswerOf}
 use Rattle.rules.specs.Folds.{within}
 use Rattle.rules.specs.Layout.{tableLength, tableWords}
-
--- n is 1 to 256, τ is 1 to 1,024, δ is 1 to 256.
-abbrev pub maxAnimals : ℕ
-maxAnimals = 256
-
-abbrev pub maxTicks : ℕ
-maxTicks = 1024
-
-abbrev pub maxCarry : ℕ
-maxCarry = 256
 
 -- The three numbers of an opening lie within their limits.
 pub record Sizes (n τ δ : ℕ) : Type 0 where

@@ -33,7 +33,7 @@ window first last = interval first last
 abbrev pub windowInRange : List ℕ → ℕ → ℕ → Bool
 windowInRange T first last = within 1 first (lastArrival T) && within 1 last (lastArrival T)
 
--- First is not after last.
+-- BeforeHead is not after last.
 abbrev pub inOrder : ℕ → ℕ → Bool
 inOrder first last = leb first last
 

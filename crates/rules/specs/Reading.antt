@@ -16,7 +16,7 @@ use Rattle.rules.specs.declared.LogWord.{LogWord}
 use Rattle.rules.specs.declared.LogWord.the-variants.{Legal, NoContact, NotLegal}
 use Rattle.rules.specs.Answers.{ensure, unless, readAnswerOf}
 use Rattle.rules.specs.Layout.{tableLength, animals, ticks, carry}
-use Rattle.rules.specs.Demand3.{engine, tableAfter}
+use Rattle.rules.specs.CallLists.{engine, tableAfter}
 
 -- ---- the words of a log; `animals`, `ticks` and `carry` are those of its first word
 

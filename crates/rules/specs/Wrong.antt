@@ -20,7 +20,8 @@ use Rattle.rules.specs.Layout.{tableWords, animals, ticks, carry, cellsO
 use Rattle.rules.specs.Opening.{openAnswer, openLeaves}
 use Rattle.rules.specs.Adding.{addRefusal, holds, addedCells, cellsChanged, addAnswer, addLeaves}
 use Rattle.rules.specs.Logs.{heldContacts, logWords, writeRefusal, writeAnswer, writeLeaves}
-use Rattle.rules.specs.Demand3.{Engine, Demand3}
+use Rattle.rules.specs.CallLists.{Engine}
+use Rattle.rules.specs.Demand3.{Demand3}
 
 -- The engine with another rule for what an add leaves, for what it answers, and for the log.
 abbrev withLeaves : (List ℕ → Contact → List ℕ) → Engine

@@ -19,7 +19,7 @@ use Rattle.rules.specs.declared.ReadAnswer.{ReadAnswer}
 use Rattle.rules.specs.declared.ReadAnswer.the-variants.{Read, Refused}
 use Rattle.rules.specs.Answers.{numberOf, readAnswerOf}
 use Rattle.rules.specs.Layout.{tableLength, animals, ticks}
-use Rattle.rules.specs.Checks.{Passes}
+use Rattle.rules.specs.Checks.{ValidTable}
 use Rattle.rules.specs.Logs.{heldContacts}
 use Rattle.rules.specs.Reading.{isLog, readRefusal, readAnswer, readLeaves}
 use Rattle.rules.specs.Sheet.{mostBytes, wordsOf, isBeyond, readText, logText, tableText, refusedText, tooLarge, notWholeWords, sheetText}
@@ -27,8 +27,8 @@ use Rattle.rules.proofs.Folds.{and-left, and-right}
 use Rattle.rules.proofs.Demand1.{demand1}
 use Rattle.rules.proofs.LogsRead.{read-held}
 use Rattle.cells.proofs.Checks.{stopped, passed}
-use Rattle.lines.specs.Onto.{onto}
-use Rattle.lines.proofs.Lengths.{sheet-fits}
+use Rattle.table_text.specs.Onto.{onto}
+use Rattle.table_text.proofs.Lengths.{sheet-fits}
 use Rattle.sheet_text.specs.Prints.{Prints}
 use Rattle.sheet_text.proofs.Words.{words-length}
 
@@ -124,8 +124,8 @@ module _ (L T : List ℕ) (g : Prints L T) (x : ReadAnswer) (e : x ≡ readAnswe
     pub text-read : (U : List ℕ) → U ≡ readLeaves L T → logText L ≡ tableText U
     text-read U f = sym g ∙ ap (λ (y : ReadAnswer). readText y (readLeaves L T)) (sym e ∙ q) ∙ ap tableText (sym f)
 
-    pub read-table : (U : List ℕ) → U ≡ readLeaves L T → Passes U × (k ≡ length (heldContacts U))
-    read-table U f = subst (λ (W : List ℕ). Passes W × (k ≡ length (heldContacts W))) (sym f) (demand1 .read-passes L T k (sym e ∙ q), read-held L T k (sym e ∙ q))
+    pub read-table : (U : List ℕ) → U ≡ readLeaves L T → ValidTable U × (k ≡ length (heldContacts U))
+    read-table U f = subst (λ (W : List ℕ). ValidTable W × (k ≡ length (heldContacts W))) (sym f) (demand1 .read-valid L T k (sym e ∙ q), read-held L T k (sym e ∙ q))
 
 -- ---- one text for another
 

@@ -7,8 +7,8 @@ use native.Mathlib.Omega.{arith}
 use lib.ListN.{length, getD, drop, set, drop-of-length-le, length-drop}
 use lib.Seq.{drop-cons}
 use Rattle.rules.specs.Sheet.{wordsOf}
-use Rattle.lines.proofs.Writing.{Writing, start, byte, end}
-use Rattle.lines.specs.Onto.{onto}
+use Rattle.table_text.proofs.Writing.{Writing, start, byte, end}
+use Rattle.table_text.specs.Onto.{onto}
 
 -- Four bytes make one word, and no more words than that.
 pub words-few : (B : List ℕ) → 4 * length (wordsOf B) ≤ length B

@@ -6,7 +6,7 @@ ghost use mathlib.Core.Path.{_≡_};
 ghost use Prim.Native.Nat.{_≤_};
 ghost use lib.ListN.{length, replicate};
 ghost use Rattle.rules.specs.Sheet.{sheetText};
-ghost use Rattle.lines.specs.Onto.{onto};
+ghost use Rattle.table_text.specs.Onto.{onto};
 
 // A text and its length; behind it the bytes are 0.
 pub struct Sheet {

@@ -6,7 +6,7 @@ ghost use lib.ListN.{length, replicate};
 ghost use Rattle.rules.specs.Layout.{tableLength, animals, ticks};
 ghost use Rattle.rules.specs.Reading.{isLog};
 ghost use Rattle.rules.specs.Sheet.{isBeyond, logText, tooLarge};
-ghost use Rattle.lines.specs.Onto.{onto};
+ghost use Rattle.table_text.specs.Onto.{onto};
 ghost use Rattle.sheet_text.specs.Prints.{Prints};
 use rules::ReadAnswer;
 use tables::Opening;
@@ -66,8 +66,8 @@ fn put_read(log: &[u32], table: &mut [u32], out: &mut [u8]) -> usize
 {
     let answer = engine::read_log(log, table);
     match answer {
-        ReadAnswer::Refused(r) => lines::put_refused(engine::number_of(r), out),
-        ReadAnswer::Read(k) => lines::put_table(table, k, out),
+        ReadAnswer::Refused(r) => table_text::put_refused(engine::number_of(r), out),
+        ReadAnswer::Read(k) => table_text::put_table(table, k, out),
     }
 }
 

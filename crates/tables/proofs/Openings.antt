@@ -13,7 +13,7 @@ use Rattle.rules.specs.declared.Refusal.the-variants.{AnimalsBeyondLimit, Ticks
 use Rattle.rules.specs.Folds.{within}
 use Rattle.rules.specs.Layout.{tableLength, animals, ticks}
 use Rattle.rules.specs.Checks.{isOpen}
-use Rattle.rules.specs.Opening.{maxAnimals, maxTicks, maxCarry}
+use Rattle.rules.specs.Limits.{maxAnimals, maxTicks, maxCarry, maxCellWords, maxCells}
 use Rattle.tables.specs.declared.Made.the-variants.{Within, Beyond}
 use Rattle.tables.specs.Openings.{made}
 
@@ -44,10 +44,10 @@ module _ (n τ δ : ℕ) where
 
 -- ---- the length of a table
 
--- A table has at most 256 · 256 · 1,025 words after its opening word.
-pub length-bound : (n τ : ℕ) → n ≤ 256 → τ ≤ 1024 → (n * n ≤ 256 * 256) × (n * n * (τ + 1) ≤ 256 * 256 * 1025)
+-- The cells and the words of a table are at most those of the largest.
+pub length-bound : (n τ : ℕ) → n ≤ maxAnimals → τ ≤ maxTicks → (n * n ≤ maxCells) × (n * n * (τ + 1) ≤ maxCells * maxCellWords)
 length-bound n τ h k =
-    let a : τ + 1 ≤ 1025 = omega arith in
+    let a : τ + 1 ≤ maxCellWords = omega arith in
     (mul-le-mul h h, mul-le-mul (mul-le-mul h h) a)
 
 -- ---- an open table

@@ -14,14 +14,14 @@ use borrow.Author.Tests.{not-true, not-false}
 use Rattle.words.specs.Words.{openingWord, countWord, unusedWord}
 use Rattle.rules.specs.Folds.{flat, allBelow}
 use Rattle.rules.specs.Layout.{tableLength, cellWords, tableWords, animals, ticks, carry, cellAt}
-use Rattle.rules.specs.Checks.{isOpen, fineCell, wellFormed}
+use Rattle.rules.specs.Checks.{isOpen, cellWellFormed, wellFormed}
 use Rattle.rules.specs.Opening.{noIntervals}
 use Rattle.rules.proofs.Folds.{and-intro, below-all, flat-same, place-of}
 use Rattle.rules.proofs.Sound.{opens-length}
 use Rattle.parts.specs.Parts.{part, parts}
 use Rattle.parts.proofs.Walk.{next-part, part-inside}
 use Rattle.parts.proofs.Flat.{parts-flat}
-use Rattle.tables.specs.Rows.{mostRows, fineCellOf, fineRowOf, fineRowAt, fineBody, emptied}
+use Rattle.tables.specs.Rows.{mostRows, cellOfWellFormed, cellsFromWellFormed, cellsFromAt, allCellsWellFormed, emptied}
 
 -- ---- a test over the parts of a list
 
@@ -75,14 +75,14 @@ module _ {p : ℕ → Bool} {s n at k : ℕ} (w : Passed p s n at k) where
 -- ---- a cell and a row
 
 -- A cell of a row, tested as it is lent.
-pub cell-lent : {r : Bool} (τ δ u v m : ℕ) (row lent : List ℕ) → m ≡ mostRows τ u v → lent ≡ part (τ + 1) v row → r ≡ fineCell τ δ m lent → r ≡ fineCellOf τ δ u row v
-unfolding fineCellOf
-cell-lent τ δ u v m row lent e f g = g ∙ ap₂ (fineCell τ δ) e f
+pub cell-lent : {r : Bool} (τ δ u v m : ℕ) (row lent : List ℕ) → m ≡ mostRows τ u v → lent ≡ part (τ + 1) v row → r ≡ cellWellFormed τ δ m lent → r ≡ cellOfWellFormed τ δ u row v
+unfolding cellOfWellFormed
+cell-lent τ δ u v m row lent e f g = g ∙ ap₂ (cellWellFormed τ δ) e f
 
 -- A row, tested as it is lent.
-pub row-lent : {r : Bool} (τ δ n u : ℕ) (body lent : List ℕ) → lent ≡ part (n * (τ + 1)) u body → r ≡ fineRowOf τ δ n u lent → r ≡ fineRowAt τ δ n body u
-unfolding fineRowAt
-row-lent τ δ n u body lent e g = g ∙ ap (fineRowOf τ δ n u) e
+pub row-lent : {r : Bool} (τ δ n u : ℕ) (body lent : List ℕ) → lent ≡ part (n * (τ + 1)) u body → r ≡ cellsFromWellFormed τ δ n u lent → r ≡ cellsFromAt τ δ n body u
+unfolding cellsFromAt
+row-lent τ δ n u body lent e g = g ∙ ap (cellsFromWellFormed τ δ n u) e
 
 -- At most τ rows may be in use.
 pub most-bound : (τ u v : ℕ) → mostRows τ u v ≤ τ
@@ -110,9 +110,9 @@ part-of-row s n u v l h =
     ∙ ap (λ (i : ℕ). take s (drop i l)) (place-of u v n s)
 
 -- The test of the rows of cells after the opening word is the check of the table.
-pub body-formed : (T : List ℕ) → fineBody (ticks T) (carry T) (animals T) (drop 1 T) ≡ wellFormed T
-unfolding fineBody fineRowAt fineRowOf fineCellOf mostRows wellFormed cellAt
-body-formed T = all-same _ _ n (λ u h. all-same _ _ n (λ v k. ap (fineCell (ticks T) (carry T) (cond (eqb u v) 0 (ticks T))) (cell u v k)))
+pub body-formed : (T : List ℕ) → allCellsWellFormed (ticks T) (carry T) (animals T) (drop 1 T) ≡ wellFormed T
+unfolding allCellsWellFormed cellsFromAt cellsFromWellFormed cellOfWellFormed mostRows wellFormed cellAt
+body-formed T = all-same _ _ n (λ u h. all-same _ _ n (λ v k. ap (cellWellFormed (ticks T) (carry T) (cond (eqb u v) 0 (ticks T))) (cell u v k)))
   where
     n : ℕ
     n = animals T
@@ -139,7 +139,7 @@ module _ (T : List ℕ) (n τ δ : ℕ) (a : n ≡ animals T) (b : τ ≡ ticks 
       rw (rest-length T, a, b) (omega (arith, opens-length T h, mul-assoc (animals T) (animals T) (ticks T + 1)))
 
   -- The test of the lent rows is the check of the table.
-  pub rows-formed : fineBody τ δ n (take (length T - 1) (drop 1 T)) ≡ wellFormed T
+  pub rows-formed : allCellsWellFormed τ δ n (take (length T - 1) (drop 1 T)) ≡ wellFormed T
   rows-formed = rw (rest-lent T, a, b, c) (body-formed T)
 
 -- ---- empty cells

@@ -6,7 +6,7 @@ use lib.ListN.{length}
 use lib.Dec.{eqb}
 use Rattle.rules.specs.Folds.{allBelow}
 use Rattle.rules.specs.Layout.{cellWords}
-use Rattle.rules.specs.Checks.{fineCell}
+use Rattle.rules.specs.Checks.{cellWellFormed}
 use Rattle.parts.specs.Parts.{part}
 
 -- The most rows in use of cell (u, v): none where u is v, else τ.
@@ -14,20 +14,20 @@ unfoldable pub mostRows : ℕ → ℕ → ℕ → ℕ
 mostRows τ u v = cond (eqb u v) 0 τ
 
 -- Cell v of the row of animal u is well formed.
-unfoldable pub fineCellOf : ℕ → ℕ → ℕ → List ℕ → ℕ → Bool
-fineCellOf τ δ u row v = fineCell τ δ (mostRows τ u v) (part (τ + 1) v row)
+unfoldable pub cellOfWellFormed : ℕ → ℕ → ℕ → List ℕ → ℕ → Bool
+cellOfWellFormed τ δ u row v = cellWellFormed τ δ (mostRows τ u v) (part (τ + 1) v row)
 
 -- The n cells of the row of animal u are well formed.
-unfoldable pub fineRowOf : ℕ → ℕ → ℕ → ℕ → List ℕ → Bool
-fineRowOf τ δ n u row = allBelow (fineCellOf τ δ u row) n
+unfoldable pub cellsFromWellFormed : ℕ → ℕ → ℕ → ℕ → List ℕ → Bool
+cellsFromWellFormed τ δ n u row = allBelow (cellOfWellFormed τ δ u row) n
 
 -- Row u of n cells is well formed.
-unfoldable pub fineRowAt : ℕ → ℕ → ℕ → List ℕ → ℕ → Bool
-fineRowAt τ δ n body u = fineRowOf τ δ n u (part (n * (τ + 1)) u body)
+unfoldable pub cellsFromAt : ℕ → ℕ → ℕ → List ℕ → ℕ → Bool
+cellsFromAt τ δ n body u = cellsFromWellFormed τ δ n u (part (n * (τ + 1)) u body)
 
 -- The n rows of n cells are well formed.
-unfoldable pub fineBody : ℕ → ℕ → ℕ → List ℕ → Bool
-fineBody τ δ n body = allBelow (fineRowAt τ δ n body) n
+unfoldable pub allCellsWellFormed : ℕ → ℕ → ℕ → List ℕ → Bool
+allCellsWellFormed τ δ n body = allBelow (cellsFromAt τ δ n body) n
 
 -- The words of a cell made empty.
 unfoldable pub emptied : ℕ → List ℕ → List ℕ

@@ -5,13 +5,14 @@ ghost use mathlib.Core.List.{[]};
 ghost use Prim.Native.Nat.{_+_, _-_, _*_, _≤_};
 ghost use lib.ListN.{length};
 ghost use Rattle.words.specs.Words.{animalsOf, ticksOf, carryOf};
+ghost use Rattle.rules.specs.Limits.{maxAnimals, maxTicks, maxCarry};
 ghost use Rattle.rules.specs.Folds.{within};
 ghost use Rattle.rules.specs.Layout.{tableLength, cellWords, tableWords};
 ghost use Rattle.rules.specs.Checks.{isOpen, wellFormed};
 ghost use Rattle.rules.specs.Opening.{Sizes, noIntervals};
 ghost use Rattle.parts.specs.Parts.{parts};
 ghost use Rattle.tables.specs.Openings.{made};
-ghost use Rattle.tables.specs.Rows.{mostRows, fineRowOf, fineBody, emptied};
+ghost use Rattle.tables.specs.Rows.{mostRows, cellsFromWellFormed, allCellsWellFormed, emptied};
 use rules::Refusal;
 
 // The opening of a table: how many animals, how many ticks, and the carry time.
@@ -44,6 +45,9 @@ impl Opening {
     pub const MAX_TICKS: u32 = 1024;
 
     pub const MAX_CARRY: u32 = 256;
+
+    // The most contacts of a chain, n−1.
+    pub const MAX_CHAIN: usize = Opening::MAX_ANIMALS as usize - 1;
 
     // The opening of three numbers, refused when one is beyond its limits.
     pub fn new(animals: u32, ticks: u32, carry: u32) -> Made
@@ -78,7 +82,7 @@ impl Opening {
 
     // The number of words of the table.
     pub fn table_length(self) -> usize
-        requires { ⌜ (self .animals ≤ 256) × (self .ticks ≤ 1024) ⌝ }
+        requires { ⌜ (self .animals ≤ maxAnimals) × (self .ticks ≤ maxTicks) ⌝ }
         ensures { λ r. ⌜ r ≡ tableLength (self .animals) (self .ticks) ⌝ }
     {
         let n = self.animals as usize;
@@ -114,16 +118,16 @@ fn most_rows(u: usize, v: usize, ticks: u32) -> u32
 }
 
 // Whether the n cells of the row of animal u are well formed.
-fn row_well_formed(row: &[u32], u: usize, n: usize, ticks: u32, carry: u32) -> bool
-    requires { ⌜ (ticks ≤ 1024) × (carry ≤ 256) × (n * (ticks + 1) ≤ length (now row)) ⌝ }
-    ensures { λ r. ⌜ r ≡ fineRowOf ticks carry n u (now (row .entry)) ⌝ }
+fn cells_from_well_formed(row: &[u32], u: usize, n: usize, ticks: u32, carry: u32) -> bool
+    requires { ⌜ (ticks ≤ maxTicks) × (carry ≤ maxCarry) × (n * (ticks + 1) ≤ length (now row)) ⌝ }
+    ensures { λ r. ⌜ r ≡ cellsFromWellFormed ticks carry n u (now (row .entry)) ⌝ }
 {
     let size = ticks as usize + 1;
     let mut at = 0;
     for v in 0..n {
         let end = at + size;
         let most = most_rows(u, v, ticks);
-        if !cells::is_fine(&row[at..end], ticks, carry, most) {
+        if !cells::is_well_formed(&row[at..end], ticks, carry, most) {
             return false;
         }
         at = end;
@@ -132,15 +136,15 @@ fn row_well_formed(row: &[u32], u: usize, n: usize, ticks: u32, carry: u32) -> b
 }
 
 // Whether the n rows of n cells are well formed.
-fn rows_well_formed(body: &[u32], n: usize, ticks: u32, carry: u32) -> bool
-    requires { ⌜ (n ≤ 256) × (ticks ≤ 1024) × (carry ≤ 256) × (n * (n * (ticks + 1)) ≤ length (now body)) ⌝ }
-    ensures { λ r. ⌜ r ≡ fineBody ticks carry n (now (body .entry)) ⌝ }
+fn all_cells_well_formed(body: &[u32], n: usize, ticks: u32, carry: u32) -> bool
+    requires { ⌜ (n ≤ maxAnimals) × (ticks ≤ maxTicks) × (carry ≤ maxCarry) × (n * (n * (ticks + 1)) ≤ length (now body)) ⌝ }
+    ensures { λ r. ⌜ r ≡ allCellsWellFormed ticks carry n (now (body .entry)) ⌝ }
 {
     let width = n * (ticks as usize + 1);
     let mut at = 0;
     for u in 0..n {
         let end = at + width;
-        if !row_well_formed(&body[at..end], u, n, ticks, carry) {
+        if !cells_from_well_formed(&body[at..end], u, n, ticks, carry) {
             return false;
         }
         at = end;
@@ -154,7 +158,7 @@ pub fn well_formed(table: &[u32]) -> bool
     ensures { λ r. ⌜ r ≡ wellFormed (now (table .entry)) ⌝ }
 {
     let o = Opening::of_word(table[0]);
-    rows_well_formed(&table[1..], o.animals as usize, o.ticks, o.carry)
+    all_cells_well_formed(&table[1..], o.animals as usize, o.ticks, o.carry)
 }
 
 // Writes an empty cell: a count of no rows, and unused words.

@@ -1,5 +1,5 @@
 -- The six words of document 01, packed and read again: each law is an instance of the laws of `Fields`.
--- Assumes nothing.
+--
 use mathlib.Core.Path.{_≡_, ap, _∙_}
 use mathlib.Core.Bool.{true}
 use mathlib.Core.List.{List, [], _∷_}
@@ -8,7 +8,7 @@ use native.Mathlib.Nat.{add-sub-cancel, sub-add-cancel}
 use native.Mathlib.Omega.{arith}
 use lib.ListN.{getD}
 use Rattle.journeys.specs.Journey.{Contact, contact, Interval, interval}
-use Rattle.words.specs.Layout.{get, pack, unpack, isOf}
+use Rattle.words.specs.Layout.{get, pack, unpack, isOf, capacity}
 use Rattle.words.specs.Words.{unusedLayout, unusedWord, departureField, arrivalField, intervalLayout, intervalWord, intervalOf, fromField, toField, tickField, contactLayout, contactWord, contactOf, animalsField, carryField, ticksField, openingLayout, openingWord, animalsOf, ticksOf, carryOf, rowsField, countLayout, countWord, loggedField, endLayout, endWord}
 use Rattle.words.proofs.Fields.{Descending, Fitting, get-bound, unpack-pack, isOf-pack, pack-unpack}
 
@@ -32,7 +32,7 @@ interval-descends = (omega arith, (omega arith, tt))
 abbrev intervalValues : Interval → List ℕ
 intervalValues i = i .departure ∷ i .arrival ∷ []
 
-module _ (i : Interval) (d : i .departure < 2048) (a : i .arrival < 2048) where
+module _ (i : Interval) (d : i .departure < capacity departureField) (a : i .arrival < capacity arrivalField) where
   -- An interval word says its interval.
   pub intervalOf-word : intervalOf (intervalWord i) ≡ i
   intervalOf-word =
@@ -46,8 +46,8 @@ module _ (i : Interval) (d : i .departure < 2048) (a : i .arrival < 2048) where
 pub intervalWord-of : (w : ℕ) → isOf intervalLayout w ≡ true → intervalWord (intervalOf w) ≡ w
 intervalWord-of w e = pack-unpack intervalLayout w e
 
--- The departure and the arrival that a word says are below 2048.
-pub intervalOf-bound : (w : ℕ) → (intervalOf w .departure < 2048) × (intervalOf w .arrival < 2048)
+-- The departure and the arrival that a word says fit their fields.
+pub intervalOf-bound : (w : ℕ) → (intervalOf w .departure < capacity departureField) × (intervalOf w .arrival < capacity arrivalField)
 intervalOf-bound w = (get-bound departureField w, get-bound arrivalField w)
 
 -- ---- contact
@@ -60,7 +60,7 @@ contact-descends = (omega arith, (omega arith, (omega arith, tt)))
 abbrev contactValues : Contact → List ℕ
 contactValues k = k .from ∷ k .to ∷ (k .tick - 1) ∷ []
 
-module _ (k : Contact) (u : k .from < 256) (v : k .to < 256) (l : 1 ≤ k .tick) (m : k .tick ≤ 1024) where
+module _ (k : Contact) (u : k .from < capacity fromField) (v : k .to < capacity toField) (l : 1 ≤ k .tick) (m : k .tick ≤ capacity tickField) where
   -- The values fit their fields.
   contact-fits : Fitting (contactLayout .fields) (contactValues k)
   contact-fits = (u, (v, (omega arith, tt)))
@@ -82,10 +82,10 @@ contactWord-of w e =
     ap (λ (t : ℕ). pack contactLayout (get fromField w ∷ get toField w ∷ t ∷ [])) (add-sub-cancel (get tickField w) 1)
     ∙ pack-unpack contactLayout w e
 
--- The animals that a word says are below 256, and its tick is of 1 to 1024.
-pub contactOf-bound : (w : ℕ) → (contactOf w .from < 256) × (contactOf w .to < 256) × (1 ≤ contactOf w .tick) × (contactOf w .tick ≤ 1024)
+-- The animals and the tick that a word says fit their fields.
+pub contactOf-bound : (w : ℕ) → (contactOf w .from < capacity fromField) × (contactOf w .to < capacity toField) × (1 ≤ contactOf w .tick) × (contactOf w .tick ≤ capacity tickField)
 contactOf-bound w =
-    let l : get tickField w < 1024 = get-bound tickField w in
+    let l : get tickField w < capacity tickField = get-bound tickField w in
     (get-bound fromField w, get-bound toField w, omega arith, omega arith)
 
 -- ---- opening
@@ -98,7 +98,7 @@ opening-descends = (omega arith, (omega arith, (omega arith, tt)))
 abbrev openingValues : ℕ → ℕ → ℕ → List ℕ
 openingValues n τ δ = (n - 1) ∷ (δ - 1) ∷ (τ - 1) ∷ []
 
-module _ (n τ δ : ℕ) (n₁ : 1 ≤ n) (n₂ : n ≤ 256) (τ₁ : 1 ≤ τ) (τ₂ : τ ≤ 1024) (δ₁ : 1 ≤ δ) (δ₂ : δ ≤ 256) where
+module _ (n τ δ : ℕ) (n₁ : 1 ≤ n) (n₂ : n ≤ capacity animalsField) (τ₁ : 1 ≤ τ) (τ₂ : τ ≤ capacity ticksField) (δ₁ : 1 ≤ δ) (δ₂ : δ ≤ capacity carryField) where
   -- The values fit their fields.
   opening-fits : Fitting (openingLayout .fields) (openingValues n τ δ)
   opening-fits = (omega arith, (omega arith, (omega arith, tt)))
@@ -128,17 +128,17 @@ pub openingWord-of : (w : ℕ) → isOf openingLayout w ≡ true → openingWord
 openingWord-of w e =
     rw (add-sub-cancel (get animalsField w) 1, add-sub-cancel (get carryField w) 1, add-sub-cancel (get ticksField w) 1) (pack-unpack openingLayout w e)
 
--- The number of animals that a word says is of 1 to 256.
-pub animalsOf-bound : (w : ℕ) → (1 ≤ animalsOf w) × (animalsOf w ≤ 256)
-animalsOf-bound w = let l : get animalsField w < 256 = get-bound animalsField w in (omega arith, omega arith)
+-- The number of animals that a word says fits its field and is at least 1.
+pub animalsOf-bound : (w : ℕ) → (1 ≤ animalsOf w) × (animalsOf w ≤ capacity animalsField)
+animalsOf-bound w = let l : get animalsField w < capacity animalsField = get-bound animalsField w in (omega arith, omega arith)
 
--- The number of ticks that a word says is of 1 to 1024.
-pub ticksOf-bound : (w : ℕ) → (1 ≤ ticksOf w) × (ticksOf w ≤ 1024)
-ticksOf-bound w = let l : get ticksField w < 1024 = get-bound ticksField w in (omega arith, omega arith)
+-- The number of ticks that a word says fits its field and is at least 1.
+pub ticksOf-bound : (w : ℕ) → (1 ≤ ticksOf w) × (ticksOf w ≤ capacity ticksField)
+ticksOf-bound w = let l : get ticksField w < capacity ticksField = get-bound ticksField w in (omega arith, omega arith)
 
--- The carry time that a word says is of 1 to 256.
-pub carryOf-bound : (w : ℕ) → (1 ≤ carryOf w) × (carryOf w ≤ 256)
-carryOf-bound w = let l : get carryField w < 256 = get-bound carryField w in (omega arith, omega arith)
+-- The carry time that a word says fits its field and is at least 1.
+pub carryOf-bound : (w : ℕ) → (1 ≤ carryOf w) × (carryOf w ≤ capacity carryField)
+carryOf-bound w = let l : get carryField w < capacity carryField = get-bound carryField w in (omega arith, omega arith)
 
 -- ---- count
 
@@ -147,19 +147,19 @@ pub count-descends : Descending 30 (countLayout .fields)
 count-descends = (omega arith, tt)
 
 -- A count word says its number of rows.
-pub rowsOf-word : (k : ℕ) → k < 2048 → get rowsField (countWord k) ≡ k
+pub rowsOf-word : (k : ℕ) → k < capacity rowsField → get rowsField (countWord k) ≡ k
 rowsOf-word k l = ap (λ (vs : List ℕ). getD vs 0 0) (unpack-pack countLayout (k ∷ []) count-descends (l, tt))
 
 -- A count word is one.
-pub countWord-is : (k : ℕ) → k < 2048 → isOf countLayout (countWord k) ≡ true
+pub countWord-is : (k : ℕ) → k < capacity rowsField → isOf countLayout (countWord k) ≡ true
 countWord-is k l = isOf-pack countLayout (k ∷ []) count-descends (l, tt)
 
 -- A count word is the word of the number of rows that it says.
 pub countWord-of : (w : ℕ) → isOf countLayout w ≡ true → countWord (get rowsField w) ≡ w
 countWord-of w e = pack-unpack countLayout w e
 
--- The number of rows that a word says is below 2048.
-pub rowsOf-bound : (w : ℕ) → get rowsField w < 2048
+-- The number of rows that a word says fits its field.
+pub rowsOf-bound : (w : ℕ) → get rowsField w < capacity rowsField
 rowsOf-bound w = get-bound rowsField w
 
 -- ---- end of log
@@ -169,17 +169,17 @@ pub end-descends : Descending 30 (endLayout .fields)
 end-descends = (omega arith, tt)
 
 -- An end word says its number of contacts.
-pub loggedOf-word : (k : ℕ) → k < 2 ^ 26 → get loggedField (endWord k) ≡ k
+pub loggedOf-word : (k : ℕ) → k < capacity loggedField → get loggedField (endWord k) ≡ k
 loggedOf-word k l = ap (λ (vs : List ℕ). getD vs 0 0) (unpack-pack endLayout (k ∷ []) end-descends (l, tt))
 
 -- An end word is one.
-pub endWord-is : (k : ℕ) → k < 2 ^ 26 → isOf endLayout (endWord k) ≡ true
+pub endWord-is : (k : ℕ) → k < capacity loggedField → isOf endLayout (endWord k) ≡ true
 endWord-is k l = isOf-pack endLayout (k ∷ []) end-descends (l, tt)
 
 -- An end word is the word of the number of contacts that it says.
 pub endWord-of : (w : ℕ) → isOf endLayout w ≡ true → endWord (get loggedField w) ≡ w
 endWord-of w e = pack-unpack endLayout w e
 
--- The number of contacts that a word says is below 2 ^ 26.
-pub loggedOf-bound : (w : ℕ) → get loggedField w < 2 ^ 26
+-- The number of contacts that a word says fits its field.
+pub loggedOf-bound : (w : ℕ) → get loggedField w < capacity loggedField
 loggedOf-bound w = get-bound loggedField w

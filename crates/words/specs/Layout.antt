@@ -13,6 +13,10 @@ pub record Field : Type 0 where
 abbrev pub bits : ℕ → ℕ → Field
 bits high low = record { shift = low; width = high + 1 - low }
 
+-- The values of a field lie below this.
+abbrev pub capacity : Field → ℕ
+capacity f = 2 ^ f .width
+
 -- A word's layout: its kind, and its fields from the highest bits down.
 pub record Layout : Type 0 where
   pub kind : ℕ
@@ -20,7 +24,7 @@ pub record Layout : Type 0 where
 
 -- The value of a field of the word.
 abbrev pub get : Field → ℕ → ℕ
-get f w = w / 2 ^ f .shift % 2 ^ f .width
+get f w = w / 2 ^ f .shift % capacity f
 
 -- The values, each at the place of its field; a value that is left out counts as 0.
 abbrev pub place : List Field → List ℕ → ℕ

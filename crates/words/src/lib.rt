@@ -3,8 +3,8 @@
 ghost use mathlib.Core.Path.{_≡_};
 ghost use Prim.Native.Nat.{_<_, _≤_, _+_};
 ghost use Rattle.journeys.specs.Journey.{interval, contact};
-ghost use Rattle.words.specs.Layout.{get, isOf};
-ghost use Rattle.words.specs.Words.{unusedLayout, unusedWord, departureField, arrivalField, intervalLayout, intervalWord, fromField, toField, tickField, contactLayout, contactWord, openingLayout, openingWord, animalsOf, ticksOf, carryOf, rowsField, countLayout, countWord, loggedField, endLayout, endWord};
+ghost use Rattle.words.specs.Layout.{capacity, get, isOf};
+ghost use Rattle.words.specs.Words.{unusedLayout, unusedWord, departureField, arrivalField, intervalLayout, intervalWord, fromField, toField, tickField, contactLayout, contactWord, animalsField, ticksField, carryField, openingLayout, openingWord, animalsOf, ticksOf, carryOf, rowsField, countLayout, countWord, loggedField, endLayout, endWord};
 
 pub fn unused_word() -> u32
     ensures { λ r. ⌜ r ≡ unusedWord ⌝ }
@@ -19,7 +19,7 @@ pub fn is_unused(w: u32) -> bool
 }
 
 pub fn interval_word(departure: u32, arrival: u32) -> u32
-    requires { ⌜ (departure < 2048) × (arrival < 2048) ⌝ }
+    requires { ⌜ (departure < capacity departureField) × (arrival < capacity arrivalField) ⌝ }
     ensures { λ r. ⌜ r ≡ intervalWord (interval departure arrival) ⌝ }
 {
     0x4000_0000 + departure * 0x800 + arrival
@@ -44,7 +44,7 @@ pub fn arrival_of(w: u32) -> u32
 }
 
 pub fn contact_word(u: u32, v: u32, t: u32) -> u32
-    requires { ⌜ (u < 256) × (v < 256) × (1 ≤ t) × (t ≤ 1024) ⌝ }
+    requires { ⌜ (u < capacity fromField) × (v < capacity toField) × (1 ≤ t) × (t ≤ capacity tickField) ⌝ }
     ensures { λ r. ⌜ r ≡ contactWord (contact u v t) ⌝ }
 {
     0x4000_0000 + u * 0x4_0000 + v * 0x400 + (t - 1)
@@ -75,7 +75,7 @@ pub fn tick_of(w: u32) -> u32
 }
 
 pub fn opening_word(animals: u32, ticks: u32, carry: u32) -> u32
-    requires { ⌜ (1 ≤ animals) × (animals ≤ 256) × (1 ≤ ticks) × (ticks ≤ 1024) × (1 ≤ carry) × (carry ≤ 256) ⌝ }
+    requires { ⌜ (1 ≤ animals) × (animals ≤ capacity animalsField) × (1 ≤ ticks) × (ticks ≤ capacity ticksField) × (1 ≤ carry) × (carry ≤ capacity carryField) ⌝ }
     ensures { λ r. ⌜ r ≡ openingWord animals ticks carry ⌝ }
 {
     0x8000_0000 + (animals - 1) * 0x4_0000 + (carry - 1) * 0x400 + (ticks - 1)
@@ -106,7 +106,7 @@ pub fn carry_of(w: u32) -> u32
 }
 
 pub fn count_word(rows: u32) -> u32
-    requires { ⌜ rows < 2048 ⌝ }
+    requires { ⌜ rows < capacity rowsField ⌝ }
     ensures { λ r. ⌜ r ≡ countWord rows ⌝ }
 {
     0xC000_0000 + rows
@@ -125,7 +125,7 @@ pub fn rows_of(w: u32) -> u32
 }
 
 pub fn end_word(logged: u32) -> u32
-    requires { ⌜ logged < 0x400_0000 ⌝ }
+    requires { ⌜ logged < capacity loggedField ⌝ }
     ensures { λ r. ⌜ r ≡ endWord logged ⌝ }
 {
     0xC000_0000 + logged

@@ -1,5 +1,5 @@
 -- `adding::add_contact` meets its contract: the numbers are read off the table, and the laws of `Added` say what the loops leave.
--- Assumes nothing.
+--
 use Prim.Native.Nat.{_+_, _-_}
 use mathlib.Core.Path.{ap}
 use native.Mathlib.Omega.{arith}
@@ -34,24 +34,6 @@ read c =
 slice-read-w : tie.Need-slice-read-w
 slice-read-w c = let f = ready c in omega arith
 
-animals-of-requires : tie.Need-animals-of-requires
-animals-of-requires c κs = search needs
-
-cast-n : tie.Need-cast-n
-cast-n c = search needs
-
-ticks-of-requires : tie.Need-ticks-of-requires
-ticks-of-requires c κs = search needs
-
-cast-size : tie.Need-cast-size
-cast-size c = search needs
-
-add-size : tie.Need-add-size
-add-size c = search needs
-
-carry-of-requires : tie.Need-carry-of-requires
-carry-of-requires c κs = search needs
-
 add-a : tie.Need-add-a
 add-a c = let f = ready (c .before .before .before) in omega (arith, c .carry-of .ensures)
 
@@ -60,9 +42,6 @@ sub-departures c = let f = ready (c .before .before .before) in omega arith
 
 part-departures-start : tie.Need-part-departures-start
 part-departures-start c = let f = ready (c .before .before .before .before) in omega arith
-
-part-departures-end : tie.Need-part-departures-end
-part-departures-end c = search needs
 
 departures-requires : tie.Need-departures-requires
 departures-requires c κs =
@@ -77,9 +56,6 @@ sub-arrivals c = let f = ready (c .before .before .before .before .before .befor
 part-arrivals-start : tie.Need-part-arrivals-start
 part-arrivals-start c = let f = ready (c .before .before .before .before .before .before .before) in omega arith
 
-part-arrivals-end : tie.Need-part-arrivals-end
-part-arrivals-end c = search needs
-
 arrivals-requires : tie.Need-arrivals-requires
 arrivals-requires c κs =
     let k = c .before .before .before .before .before in
@@ -92,9 +68,6 @@ sub-is-known c = let f = ready (c .before .before .before .before .before .befor
 
 part-is-known-start : tie.Need-part-is-known-start
 part-is-known-start c = let f = ready (c .before .before .before .before .before .before .before .before .before .before) in omega arith
-
-part-is-known-end : tie.Need-part-is-known-end
-part-is-known-end c = search needs
 
 is-known-requires : tie.Need-is-known-requires
 is-known-requires c κs =
@@ -109,9 +82,6 @@ sub-enter-rows c = let f = ready (c .before .before .before .before .before .bef
 part-enter-rows-start : tie.Need-part-enter-rows-start
 part-enter-rows-start c = let f = ready (c .before .before .before .before .before .before .before .before .before .before .before .before) in omega arith
 
-part-enter-rows-end : tie.Need-part-enter-rows-end
-part-enter-rows-end c = search needs
-
 enter-rows-requires : tie.Need-enter-rows-requires
 enter-rows-requires c κs =
     let b = c .before .before .before in
@@ -120,9 +90,6 @@ enter-rows-requires c κs =
     let k = d .before .before .before in
     let s = k .before .before .before .before .before in
     (read-body _ _ (s .pre) (read k), read-below _ _ (s .pre) (read k) (d .departures .result) (e .arrivals .result) (d .departures .ensures) (e .arrivals .ensures))
-
-same-length : tie.Need-same-length
-same-length c = search needs
 
 returns : tie.Need-returns
 returns c =
@@ -143,29 +110,7 @@ pub add-contact-spec : {M : Type 1} → statement M
 add-contact-spec =
     tie.close
     (tie.spec
-    slice-read-w
-    animals-of-requires
-    cast-n
-    ticks-of-requires
-    cast-size
-    add-size
-    carry-of-requires
-    add-a
-    sub-departures
-    part-departures-start
-    part-departures-end
-    departures-requires
-    sub-arrivals
-    part-arrivals-start
-    part-arrivals-end
-    arrivals-requires
-    sub-is-known
-    part-is-known-start
-    part-is-known-end
-    is-known-requires
-    sub-enter-rows
-    part-enter-rows-start
-    part-enter-rows-end
-    enter-rows-requires
-    same-length
-    returns)
+    slice-read-w (λ c κs. search needs) (λ c. search needs) (λ c κs. search needs) (λ c. search needs) (λ c. search needs) (λ c κs. search needs)
+    add-a sub-departures part-departures-start (λ c. search needs) departures-requires sub-arrivals part-arrivals-start (λ c. search needs)
+    arrivals-requires sub-is-known part-is-known-start (λ c. search needs) is-known-requires sub-enter-rows part-enter-rows-start (λ c. search needs)
+    enter-rows-requires (λ c. search needs) returns)

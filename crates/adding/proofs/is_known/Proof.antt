@@ -1,4 +1,4 @@
--- `adding::is_known` meets its contract: the cell read is the one from u to v. Assumes nothing.
+-- `adding::is_known` meets its contract: the cell read is the one from u to v.
 use mathlib.Core.Path.{ap, _∙_}
 use native.Mathlib.Omega.{arith}
 use borrow.Author.Needs.{needs}
@@ -25,38 +25,21 @@ mul-at-2 c = let p = here c in omega arith
 add-end : tie.Need-add-end
 add-end c = let p = here c in omega arith
 
-mul-holds : tie.Need-mul-holds
-mul-holds c = let p = here c in omega arith
+mul-stands : tie.Need-mul-stands
+mul-stands c = let p = here c in omega arith
 
-sub-holds : tie.Need-sub-holds
-sub-holds c = search needs
+part-stands-end : tie.Need-part-stands-end
+part-stands-end c = let p = here c in omega arith
 
-part-holds-start : tie.Need-part-holds-start
-part-holds-start c = search needs
-
-part-holds-end : tie.Need-part-holds-end
-part-holds-end c = let p = here c in omega arith
-
-holds-requires : tie.Need-holds-requires
-holds-requires c κs = here (c .before) .stored
+stands-requires : tie.Need-stands-requires
+stands-requires c κs = here (c .before) .stored
 
 returns : tie.Need-returns
 returns c =
     let h = c .before .before in
     let s = h .before .args in
-    c .holds .ensures ∙ ap (λ l. stands (interval (s .t) (s .a)) (cellOf l)) (here h .lent)
+    c .stands .ensures ∙ ap (λ l. stands (interval (s .t) (s .a)) (cellOf l)) (here h .lent)
 
 pub is-known-spec : {M : Type 1} → statement M
 is-known-spec =
-    tie.close
-    (tie.spec
-    mul-at
-    add-at
-    mul-at-2
-    add-end
-    mul-holds
-    sub-holds
-    part-holds-start
-    part-holds-end
-    holds-requires
-    returns)
+    tie.close (tie.spec mul-at add-at mul-at-2 add-end mul-stands (λ c. search needs) (λ c. search needs) part-stands-end stands-requires returns)

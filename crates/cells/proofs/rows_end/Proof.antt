@@ -1,4 +1,4 @@
--- `cells::rows_end` meets its contract. Assumes nothing.
+-- `cells::rows_end` meets its contract.
 use native.Mathlib.Omega.{arith}
 use borrow.Author.Needs.{needs}
 use Rattle.cells.proofs.Lent.{count-fits}

@@ -1,4 +1,4 @@
--- `chain` meets its contract: each return is a case of the rule. Assumes nothing.
+-- `chain` meets its contract: each return is a case of the rule.
 use native.Mathlib.Omega.{arith}
 use borrow.Author.Needs.{needs}
 use lib.ListN.{length}
@@ -6,15 +6,6 @@ use Rattle.rules.proofs.Sound.{table-sizes}
 use Rattle.chains.proofs.Replies.{Accepted, chain-refused, chain-accepted, chain-none, chain-found}
 use Rattle.chains.proofs.chain.Statement.{statement}
 use Rattle.chains.proofs.chain.Tie as tie
-
-judge-chain-requires : tie.Need-judge-chain-requires
-judge-chain-requires c κs = search needs
-
-enum-known-verdict : tie.Need-enum-known-verdict
-enum-known-verdict c = search needs
-
-enum-told : tie.Need-enum-told
-enum-told c = search needs
 
 -- What the checks say of a call that is not refused.
 accepted : (c : tie.After-enum-told) → let a = c .before .before .before .before .before .args in Accepted (a .table .now) (a .u) (a .v) (length (a .buffer .now))
@@ -51,9 +42,6 @@ returns-2 c =
     let a = c .before .before .before .before .before .before .args in
     chain-refused (a .table .now) (a .u) (a .v) (a .first) (a .last) (a .buffer .now) _ (c .before .before .before .judge-chain .ensures) _ (c .before .verdict .given .1)
 
-same-length : tie.Need-same-length
-same-length c = search needs
-
 returns-3 : tie.Need-returns-3
 returns-3 c =
     let w = c .before .before .before in
@@ -70,13 +58,5 @@ pub chain-spec : {M : Type 1} → statement M
 chain-spec =
     tie.close
     (tie.spec
-    judge-chain-requires
-    enum-known-verdict
-    enum-told
-    find-requires
-    returns
-    write-front-requires
-    cast-t17
-    returns-2
-    same-length
+    (λ c κs. search needs) (λ c. search needs) (λ c. search needs) find-requires returns write-front-requires cast-t17 returns-2 (λ c. search needs)
     returns-3)

@@ -1,15 +1,9 @@
--- `find` meets its contract: each return is a case of the rule. Assumes nothing.
+-- `find` meets its contract: each return is a case of the rule.
 use native.Mathlib.Omega.{arith}
 use borrow.Author.Needs.{needs}
 use Rattle.chains.proofs.Replies.{none-found, none-arrives, arrives-late, none-departs, departs, departs-by}
 use Rattle.chains.proofs.find.Statement.{statement}
 use Rattle.chains.proofs.find.Tie as tie
-
-first-arrival-requires : tie.Need-first-arrival-requires
-first-arrival-requires c κs = search needs
-
-none-requires : tie.Need-none-requires
-none-requires c κs = search needs
 
 returns : tie.Need-returns
 returns c =
@@ -19,9 +13,6 @@ returns c =
     let a = s .args in
     let r = c .none .ensures in
     (none-found _ _ _ _ (r .0) (none-arrives (a .table .now) (s .pre .0) (a .u) (a .v) (s .pre .1 .0) (s .pre .1 .1) (a .first) (a .last) _ (f .first-arrival .ensures) (t .if1 .taken)), (omega (arith, r .1, s .pre .1 .0), r .2))
-
-none-requires-2 : tie.Need-none-requires-2
-none-requires-2 c κs = search needs
 
 returns-2 : tie.Need-returns-2
 returns-2 c =
@@ -35,9 +26,6 @@ returns-2 c =
 
 last-departure-requires : tie.Need-last-departure-requires
 last-departure-requires c κs = let s = c .before .before .before .before in (s .pre .0, s .pre .1)
-
-none-requires-3 : tie.Need-none-requires-3
-none-requires-3 c κs = search needs
 
 returns-3 : tie.Need-returns-3
 returns-3 c =
@@ -77,13 +65,5 @@ pub find-spec : {M : Type 1} → statement M
 find-spec =
     tie.close
     (tie.spec
-    first-arrival-requires
-    none-requires
-    returns
-    none-requires-2
-    returns-2
-    last-departure-requires
-    none-requires-3
-    returns-3
-    collect-requires
-    returns-4)
+    (λ c κs. search needs) (λ c κs. search needs) returns (λ c κs. search needs) returns-2 last-departure-requires (λ c κs. search needs) returns-3
+    collect-requires returns-4)

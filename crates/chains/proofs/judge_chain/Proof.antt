@@ -1,40 +1,19 @@
--- `judge_chain` meets its contract: each return is the verdict of one group of checks. Assumes nothing.
+-- `judge_chain` meets its contract: each return is the verdict of one group of checks.
 use borrow.Author.Needs.{needs}
 use Rattle.rules.specs.Questions.{ensureWindow}
-use Rattle.verdicts.proofs.Groups.{table-group, pair-group, window-group, group-refused, group-passed, table-long}
+use Rattle.checks.proofs.Groups.{table-group, pair-group, window-group, group-refused, group-passed, table-long}
 use Rattle.chains.specs.Found.{roomCheck, chainChecks}
 use Rattle.chains.proofs.judge_chain.Statement.{statement}
 use Rattle.chains.proofs.judge_chain.Tie as tie
 
-judge-table-requires : tie.Need-judge-table-requires
-judge-table-requires c κs = search needs
-
-enum-known-whole : tie.Need-enum-known-whole
-enum-known-whole c = search needs
-
-enum-told : tie.Need-enum-told
-enum-told c = search needs
-
 judge-pair-requires : tie.Need-judge-pair-requires
 judge-pair-requires c κs = let a = c .before .before .before .before .args in table-long (a .table .now) _ (c .before .before .judge-table .ensures) (c .enum-told .given .1)
-
-enum-known-pair : tie.Need-enum-known-pair
-enum-known-pair c = search needs
-
-enum-told-2 : tie.Need-enum-told-2
-enum-told-2 c = search needs
 
 judge-window-requires : tie.Need-judge-window-requires
 judge-window-requires c κs =
     let h = c .before .before .before in
     let a = h .before .before .before .before .args in
     table-long (a .table .now) _ (h .before .before .judge-table .ensures) (h .enum-told .given .1)
-
-enum-known-window : tie.Need-enum-known-window
-enum-known-window c = search needs
-
-enum-told-3 : tie.Need-enum-told-3
-enum-told-3 c = search needs
 
 judge-room-requires : tie.Need-judge-room-requires
 judge-room-requires c κs =
@@ -82,17 +61,5 @@ pub judge-chain-spec : {M : Type 1} → statement M
 judge-chain-spec =
     tie.close
     (tie.spec
-    judge-table-requires
-    enum-known-whole
-    enum-told
-    judge-pair-requires
-    enum-known-pair
-    enum-told-2
-    judge-window-requires
-    enum-known-window
-    enum-told-3
-    judge-room-requires
-    returns
-    returns-2
-    returns-3
-    returns-4)
+    (λ c κs. search needs) (λ c. search needs) (λ c. search needs) judge-pair-requires (λ c. search needs) (λ c. search needs) judge-window-requires
+    (λ c. search needs) (λ c. search needs) judge-room-requires returns returns-2 returns-3 returns-4)

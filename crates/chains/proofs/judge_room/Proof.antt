@@ -1,4 +1,4 @@
--- `judge_room` meets its contract: each return is a case of check 10. Assumes nothing.
+-- `judge_room` meets its contract: each return is a case of check 10.
 use borrow.Author.Needs.{needs}
 use Rattle.chains.proofs.Replies.{room-short, room-passed}
 use Rattle.chains.proofs.judge_room.Statement.{statement}

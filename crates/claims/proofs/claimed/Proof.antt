@@ -1,18 +1,9 @@
--- `claimed` meets its contract: each return is a case of the rule. Assumes nothing.
+-- `claimed` meets its contract: each return is a case of the rule.
 use borrow.Author.Needs.{needs}
 use Rattle.questions.proofs.Answered.{reach-accepted}
 use Rattle.claims.proofs.Answered.{claimed-refused, claimed-yes, claimed-no}
 use Rattle.claims.proofs.claimed.Statement.{statement}
 use Rattle.claims.proofs.claimed.Tie as tie
-
-judge-reach-requires : tie.Need-judge-reach-requires
-judge-reach-requires c κs = search needs
-
-enum-known-verdict : tie.Need-enum-known-verdict
-enum-known-verdict c = search needs
-
-enum-told : tie.Need-enum-told
-enum-told c = search needs
 
 spells-requires : tie.Need-spells-requires
 spells-requires c κs =
@@ -42,12 +33,4 @@ returns-3 c =
 
 pub claimed-spec : {M : Type 1} → statement M
 claimed-spec =
-    tie.close
-    (tie.spec
-    judge-reach-requires
-    enum-known-verdict
-    enum-told
-    spells-requires
-    returns
-    returns-2
-    returns-3)
+    tie.close (tie.spec (λ c κs. search needs) (λ c. search needs) (λ c. search needs) spells-requires returns returns-2 returns-3)

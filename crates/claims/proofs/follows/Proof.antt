@@ -1,5 +1,5 @@
 -- `follows` meets its contract. The loop's invariant: what is left of the test equals the whole test. The measure is how many words are
--- left. Assumes nothing.
+-- left.
 use native.Mathlib.Omega.{arith}
 use borrow.Author.Needs.{needs}
 use Prim.Native.Nat.{_-_, _≤_}
@@ -20,20 +20,8 @@ abbrev μ-loop : tie.MeasureT-loop
 shared-slice-read-carry-of : tie.Need-shared-slice-read-carry-of Inv-loop μ-loop
 shared-slice-read-carry-of c = let s = c .before .before .before in omega (arith, opens-length (s .args .table .now) (s .pre .opens))
 
-carry-of-requires : tie.Need-carry-of-requires Inv-loop μ-loop
-carry-of-requires c κs = search needs
-
 loop-holds : tie.Need-loop-holds Inv-loop μ-loop
 loop-holds c = (omega arith, refl)
-
-mul-w : tie.Need-mul-w Inv-loop μ-loop
-mul-w c = omega arith
-
-shared-slice-read-w : tie.Need-shared-slice-read-w Inv-loop μ-loop
-shared-slice-read-w c = omega arith
-
-goes-on-requires : tie.Need-goes-on-requires Inv-loop μ-loop
-goes-on-requires c κs = search needs
 
 returns : tie.Need-returns Inv-loop μ-loop
 returns c =
@@ -41,21 +29,6 @@ returns c =
     let l = f .before .before .before in
     let a = l .before .before .before .before .before .args in
     follows-stop (a .table .now) (a .v) (a .last) (l .loop .x) (l .loop .a) (a .chain .now) (l .loop .i) (l .loop .inv .1) (omega arith) (f .goes-on .ensures) (c .if1 .taken)
-
-to-of-requires : tie.Need-to-of-requires Inv-loop μ-loop
-to-of-requires c κs = search needs
-
-tick-of-requires : tie.Need-tick-of-requires Inv-loop μ-loop
-tick-of-requires c κs = search needs
-
-add-a : tie.Need-add-a Inv-loop μ-loop
-add-a c = omega arith
-
-add-i : tie.Need-add-i Inv-loop μ-loop
-add-i c = omega arith
-
-loop-less : tie.Need-loop-less Inv-loop μ-loop
-loop-less c = omega arith
 
 loop-again : tie.Need-loop-again Inv-loop μ-loop
 loop-again c =
@@ -90,21 +63,5 @@ pub follows-spec : {M : Type 1} → statement M
 follows-spec =
     tie.close
     (tie.spec
-    Inv-loop
-    μ-loop
-    shared-slice-read-carry-of
-    carry-of-requires
-    loop-holds
-    mul-w
-    shared-slice-read-w
-    goes-on-requires
-    returns
-    to-of-requires
-    tick-of-requires
-    add-a
-    add-i
-    loop-less
-    loop-again
-    returns-2
-    returns-3
-    returns-4)
+    Inv-loop μ-loop shared-slice-read-carry-of (λ c κs. search needs) loop-holds (λ c. omega arith) (λ c. omega arith) (λ c κs. search needs) returns
+    (λ c κs. search needs) (λ c κs. search needs) (λ c. omega arith) (λ c. omega arith) (λ c. omega arith) loop-again returns-2 returns-3 returns-4)

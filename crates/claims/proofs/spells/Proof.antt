@@ -1,4 +1,4 @@
--- `spells` meets its contract: no word spells nothing, and any other list is tested word by word. Assumes nothing.
+-- `spells` meets its contract: no word spells nothing, and any other list is tested word by word.
 use native.Mathlib.Omega.{arith}
 use borrow.Author.Needs.{needs}
 use Rattle.claims.proofs.Words.{spells-none, spells-some}

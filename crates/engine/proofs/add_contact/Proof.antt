@@ -1,24 +1,12 @@
--- `add_contact` meets its contract: each return is a case of the rule. Assumes nothing.
+-- `add_contact` meets its contract: each return is a case of the rule.
 use Rattle.journeys.specs.Journey.{contact}
 use Rattle.engine.proofs.Calls.{add-refused, add-passed, add-known, add-new}
 use borrow.Author.Needs.{needs}
 use Rattle.engine.proofs.add_contact.Statement.{statement}
 use Rattle.engine.proofs.add_contact.Tie as tie
 
-judge-add-requires : tie.Need-judge-add-requires
-judge-add-requires c κs = search needs
-
-enum-known-verdict : tie.Need-enum-known-verdict
-enum-known-verdict c = search needs
-
-enum-told : tie.Need-enum-told
-enum-told c = search needs
-
 add-contact-requires : tie.Need-add-contact-requires
 add-contact-requires c κs = let a = c .before .before .before .before .before .before .args in add-passed (a .table .now) (contact (a .u) (a .v) (a .t)) _ (c .before .before .before .judge-add .ensures) (c .before .enum-told .given .1)
-
-same-length : tie.Need-same-length
-same-length c = search needs
 
 returns : tie.Need-returns
 returns c =
@@ -26,14 +14,8 @@ returns c =
     let r = c .before .before .before .add-contact .ensures in
     (add-known (a .table .now) (contact (a .u) (a .v) (a .t)) _ (c .before .before .before .before .before .before .before .judge-add .ensures) (c .before .before .before .before .before .enum-told .given .1) _ _ (r .0) (r .1 .0) (c .if1 .taken), r .1 .1)
 
-same-length-2 : tie.Need-same-length-2
-same-length-2 c = search needs
-
 returns-2 : tie.Need-returns-2
 returns-2 c = let a = c .before .before .before .before .before .before .args in add-refused (a .table .now) (contact (a .u) (a .v) (a .t)) _ (c .before .before .before .judge-add .ensures) _ (c .before .verdict .given .1)
-
-same-length-3 : tie.Need-same-length-3
-same-length-3 c = search needs
 
 returns-3 : tie.Need-returns-3
 returns-3 c =
@@ -45,13 +27,5 @@ pub add-contact-spec : {M : Type 1} → statement M
 add-contact-spec =
     tie.close
     (tie.spec
-    judge-add-requires
-    enum-known-verdict
-    enum-told
-    add-contact-requires
-    same-length
-    returns
-    same-length-2
-    returns-2
-    same-length-3
-    returns-3)
+    (λ c κs. search needs) (λ c. search needs) (λ c. search needs) add-contact-requires (λ c. search needs) returns (λ c. search needs) returns-2
+    (λ c. search needs) returns-3)

@@ -4,23 +4,8 @@ use Rattle.engine.proofs.Calls.{passed-length, add-table-refused, add-p
 use Rattle.engine.proofs.judge_add.Statement.{statement}
 use Rattle.engine.proofs.judge_add.Tie as tie
 
-judge-table-requires : tie.Need-judge-table-requires
-judge-table-requires c κs = search needs
-
-enum-known-whole : tie.Need-enum-known-whole
-enum-known-whole c = search needs
-
-enum-told : tie.Need-enum-told
-enum-told c = search needs
-
 judge-pair-requires : tie.Need-judge-pair-requires
 judge-pair-requires c κs = let a = c .before .before .before .before .args in passed-length (a .table .now) _ (c .before .before .judge-table .ensures) (c .enum-told .given .1)
-
-enum-known-pair : tie.Need-enum-known-pair
-enum-known-pair c = search needs
-
-enum-told-2 : tie.Need-enum-told-2
-enum-told-2 c = search needs
 
 judge-tick-requires : tie.Need-judge-tick-requires
 judge-tick-requires c κs = let a = c .before .before .before .before .before .before .before .args in passed-length (a .table .now) _ (c .before .before .before .before .before .judge-table .ensures) (c .before .before .before .enum-told .given .1)
@@ -38,13 +23,5 @@ pub judge-add-spec : {M : Type 1} → statement M
 judge-add-spec =
     tie.close
     (tie.spec
-    judge-table-requires
-    enum-known-whole
-    enum-told
-    judge-pair-requires
-    enum-known-pair
-    enum-told-2
-    judge-tick-requires
-    returns
-    returns-2
-    returns-3)
+    (λ c κs. search needs) (λ c. search needs) (λ c. search needs) judge-pair-requires (λ c. search needs) (λ c. search needs) judge-tick-requires
+    returns returns-2 returns-3)

@@ -4,15 +4,6 @@ use Rattle.engine.proofs.Calls.{open-beyond, opening-sizes, open-wrong-
 use Rattle.engine.proofs.open_table.Statement.{statement}
 use Rattle.engine.proofs.open_table.Tie as tie
 
-new-requires : tie.Need-new-requires
-new-requires c κs = search needs
-
-enum-known-made : tie.Need-enum-known-made
-enum-known-made c = search needs
-
-enum-known-made-2 : tie.Need-enum-known-made-2
-enum-known-made-2 c = search needs
-
 table-length-requires : tie.Need-table-length-requires
 table-length-requires c κs = let a = c .before .before .before .before .before .args in let s = opening-sizes (a .animals) (a .ticks) (a .carry) (a .table .now) _ _ (c .before .before .before .new .ensures) (c .before .made2 .given .1) in (s .n-high, s .τ-high)
 
@@ -25,9 +16,6 @@ write-opened-requires c κs = let a = c .before .before .before .before .before 
 returns-2 : tie.Need-returns-2
 returns-2 c = let a = c .before .before .before .before .before .args in open-beyond (a .animals) (a .ticks) (a .carry) (a .table .now) _ _ (c .before .before .before .new .ensures) (c .before .made .given .1)
 
-same-length : tie.Need-same-length
-same-length c = search needs
-
 returns-3 : tie.Need-returns-3
 returns-3 c = let a = c .before .before .before .before .before .before .before .before .before .before .before .args in open-done (a .animals) (a .ticks) (a .carry) (a .table .now) _ _ (c .before .before .before .before .before .before .before .before .before .new .ensures) (c .before .before .before .before .before .before .before .made2 .given .1) _ _ (c .before .before .before .before .before .table-length .ensures) (c .before .before .before .before .if1 .left) (c .before .before .write-opened .ensures)
 
@@ -35,12 +23,5 @@ pub open-table-spec : {M : Type 1} → statement M
 open-table-spec =
     tie.close
     (tie.spec
-    new-requires
-    enum-known-made
-    enum-known-made-2
-    table-length-requires
-    returns
-    write-opened-requires
-    returns-2
-    same-length
+    (λ c κs. search needs) (λ c. search needs) (λ c. search needs) table-length-requires returns write-opened-requires returns-2 (λ c. search needs)
     returns-3)

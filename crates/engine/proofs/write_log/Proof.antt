@@ -1,23 +1,11 @@
--- `write_log` meets its contract: each return is a case of the rule. Assumes nothing.
+-- `write_log` meets its contract: each return is a case of the rule.
 use Rattle.engine.proofs.Calls.{table-passed, write-table-refused, write-done, write-short}
 use borrow.Author.Needs.{needs}
 use Rattle.engine.proofs.write_log.Statement.{statement}
 use Rattle.engine.proofs.write_log.Tie as tie
 
-judge-table-requires : tie.Need-judge-table-requires
-judge-table-requires c κs = search needs
-
-enum-known-whole : tie.Need-enum-known-whole
-enum-known-whole c = search needs
-
-enum-told : tie.Need-enum-told
-enum-told c = search needs
-
 write-held-requires : tie.Need-write-held-requires
 write-held-requires c κs = let a = c .before .before .before .before .before .before .args in table-passed (a .table .now) _ (c .before .before .before .judge-table .ensures) (c .before .enum-told .given .1)
-
-same-length : tie.Need-same-length
-same-length c = search needs
 
 returns : tie.Need-returns
 returns c =
@@ -27,9 +15,6 @@ returns c =
 
 returns-2 : tie.Need-returns-2
 returns-2 c = let a = c .before .before .before .before .before .before .args in write-table-refused (a .table .now) (a .buffer .now) _ (c .before .before .before .judge-table .ensures) _ (c .before .whole .given .1)
-
-same-length-2 : tie.Need-same-length-2
-same-length-2 c = search needs
 
 returns-3 : tie.Need-returns-3
 returns-3 c =
@@ -41,12 +26,5 @@ pub write-log-spec : {M : Type 1} → statement M
 write-log-spec =
     tie.close
     (tie.spec
-    judge-table-requires
-    enum-known-whole
-    enum-told
-    write-held-requires
-    same-length
-    returns
-    returns-2
-    same-length-2
+    (λ c κs. search needs) (λ c. search needs) (λ c. search needs) write-held-requires (λ c. search needs) returns returns-2 (λ c. search needs)
     returns-3)

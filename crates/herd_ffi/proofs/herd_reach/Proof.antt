@@ -1,33 +1,9 @@
--- `herd_reach` meets its contract: its reply is the packing of the answer of `reach`. Assumes nothing.
+-- `herd_reach` meets its contract: its reply is the packing of the answer of `reach`.
 use mathlib.Core.Path.{sym, ap, _∙_}
 use Rattle.rules.specs.Answers.{reply, askReply}
 use borrow.Author.Needs.{needs}
 use Rattle.herd_ffi.proofs.herd_reach.Statement.{statement}
 use Rattle.herd_ffi.proofs.herd_reach.Tie as tie
-
-reach-requires : tie.Need-reach-requires
-reach-requires c κs = search needs
-
-enum-told : tie.Need-enum-told
-enum-told c = search needs
-
-reply-of-requires : tie.Need-reply-of-requires
-reply-of-requires c κs = search needs
-
-enum-told-2 : tie.Need-enum-told-2
-enum-told-2 c = search needs
-
-reply-of-requires-2 : tie.Need-reply-of-requires-2
-reply-of-requires-2 c κs = search needs
-
-enum-known-answer : tie.Need-enum-known-answer
-enum-known-answer c = search needs
-
-number-of-requires : tie.Need-number-of-requires
-number-of-requires c κs = search needs
-
-reply-of-requires-3 : tie.Need-reply-of-requires-3
-reply-of-requires-3 c κs = search needs
 
 returns : tie.Need-returns
 returns c = c .reply-of .ensures ∙ ap askReply (sym (c .before .enum-told .given .1) ∙ c .before .before .before .reach .ensures)
@@ -43,14 +19,5 @@ pub herd-reach-spec : {M : Type 1} → statement M
 herd-reach-spec =
     tie.close
     (tie.spec
-    reach-requires
-    enum-told
-    reply-of-requires
-    enum-told-2
-    reply-of-requires-2
-    enum-known-answer
-    number-of-requires
-    reply-of-requires-3
-    returns
-    returns-2
-    returns-3)
+    (λ c κs. search needs) (λ c. search needs) (λ c κs. search needs) (λ c. search needs) (λ c κs. search needs) (λ c. search needs)
+    (λ c κs. search needs) (λ c κs. search needs) returns returns-2 returns-3)

@@ -1,4 +1,4 @@
--- `span_of` meets its contract: the words are those of the cell from u to v. Assumes nothing.
+-- `span_of` meets its contract: the words are those of the cell from u to v.
 use mathlib.Core.Path.{ap}
 use Prim.Native.Nat.{ℕ, _+_}
 use native.Mathlib.Omega.{arith}
@@ -17,21 +17,6 @@ here c =
 
 shared-slice-read-w : tie.Need-shared-slice-read-w
 shared-slice-read-w c = let s = c .before .before in omega (arith, opens-length (s .args .table .now) (s .pre .0 .opens))
-
-animals-of-requires : tie.Need-animals-of-requires
-animals-of-requires c κs = search needs
-
-cast-n : tie.Need-cast-n
-cast-n c = search needs
-
-ticks-of-requires : tie.Need-ticks-of-requires
-ticks-of-requires c κs = search needs
-
-cast-size : tie.Need-cast-size
-cast-size c = search needs
-
-add-size : tie.Need-add-size
-add-size c = search needs
 
 mul-start : tie.Need-mul-start
 mul-start c = let p = here c in omega arith
@@ -57,15 +42,5 @@ pub span-of-spec : {M : Type 1} → statement M
 span-of-spec =
     tie.close
     (tie.spec
-    shared-slice-read-w
-    animals-of-requires
-    cast-n
-    ticks-of-requires
-    cast-size
-    add-size
-    mul-start
-    add-start
-    mul-start-2
-    add-start-2
-    add-t10
-    returns)
+    shared-slice-read-w (λ c κs. search needs) (λ c. search needs) (λ c κs. search needs) (λ c. search needs) (λ c. search needs) mul-start add-start
+    mul-start-2 add-start-2 add-t10 returns)

@@ -1,6 +1,6 @@
 -- `ask_all` meets its contract: a walk of its MIR with a loop, by hand. `plan_for` says how many records are answered. The list's borrow is opened before the
 -- loop and closed after it. Each turn takes one record out, passes it to `asked`, and puts the record returned in its place.
--- Assumes nothing.
+--
 use mathlib.Core.Path.{_≡_, refl, sym, _∙_, ap, subst}
 use Prim.Native.Nat.{ℕ, zero, suc, _+_, _*_, _<_, _≤_, _^_}
 use native.Mathlib.Omega.{arith}
@@ -53,7 +53,7 @@ use denote.Exit.{yes}
 use denote.Signature.{plain}
 use Rattle.rules.specs.declared.RecordAnswer.the-variants.{Unasked}
 use Rattle.rules.specs.declared.Question.{Question}
-use Rattle.rules.specs.Checks.{Passes}
+use Rattle.rules.specs.Checks.{ValidTable}
 use Rattle.rules.specs.QuestionList.{asked as asked-of}
 use Rattle.rules.proofs.Question as T
 use Rattle.rules.proofs.Question.Laws as T′
@@ -193,7 +193,7 @@ module _ {M : Type 1} (𝓤 : URA M) (H : Heap 𝓤) (A : Atoms 𝓤) (W : Given
   to-asked y = (((κ, tt), (q, tt), tt, (x, (y, tt)), (s₁ ∷ [], (mach y ∷ [], tt))), tt)
 
   -- What it asks is had on a table that passed 5 and 6.
-  goes-asked : Passes (x .now) → (y : Question) → Is R y (mach y ∷ []) → ent 𝓤 (⋆ 𝓤 H A (‵ (flft κ q) ∷ Table ∷ [])) (Asked 𝓤 H A at-mem run .pre (to-asked y))
+  goes-asked : ValidTable (x .now) → (y : Question) → Is R y (mach y ∷ []) → ent 𝓤 (⋆ 𝓤 H A (‵ (flft κ q) ∷ Table ∷ [])) (Asked 𝓤 H A at-mem run .pre (to-asked y))
   goes-asked passes y is =
       qed W (‵ (flft κ q) ∷ Table ∷ []) ∵ says ! passes $ nothing ! $ move ! (1 ∷ 0 ∷ []) $ join ! $ frame ! $
       nothing ! $ owned ! R (Is R) (LL.makes T.the-type T′.the-plain 𝓤 H A) y _ is $ fjoin ! $ move ! (1 ∷ 0 ∷ []) $ fjoin ! $ done !
@@ -305,7 +305,7 @@ module _ {M : Type 1} (𝓤 : URA M) (H : Heap 𝓤) (A : Atoms 𝓤) (W : Given
           inside : i < length (upto f i ys)
           inside = subst (λ (l : ℕ). i < l) (sym (length-upto f i ys)) (omega (arith, within))
 
-          passes : Passes (x .now)
+          passes : ValidTable (x .now)
           passes = count-passes (x .now) n i (subst (λ (r : Plan). i < r .count) p-is small)
 
           product : i * 24 < 2 ^ 64

@@ -1,4 +1,4 @@
--- `asked` meets its contract: the record has the answer of a single reach. Assumes nothing.
+-- `asked` meets its contract: the record has the answer of a single reach.
 use borrow.Author.Needs.{needs}
 use Rattle.question_lists.proofs.Planned.{record-filled}
 use Rattle.question_lists.proofs.asked.Statement.{statement}

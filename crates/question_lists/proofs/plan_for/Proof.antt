@@ -1,4 +1,4 @@
--- `plan_for` meets its contract: each return is a case of the table's verdict. Assumes nothing.
+-- `plan_for` meets its contract: each return is a case of the table's verdict.
 use borrow.Author.Needs.{needs}
 use Rattle.question_lists.proofs.Planned.{plan-refused, plan-all}
 use Rattle.question_lists.proofs.plan_for.Statement.{statement}

@@ -1,17 +1,8 @@
--- `connected` meets its contract: each return is a case of the rule. Assumes nothing.
+-- `connected` meets its contract: each return is a case of the rule.
 use borrow.Author.Needs.{needs}
 use Rattle.questions.proofs.Answered.{connected-refused, connected-accepted, connected-yes, connected-no}
 use Rattle.questions.proofs.connected.Statement.{statement}
 use Rattle.questions.proofs.connected.Tie as tie
-
-judge-connected-requires : tie.Need-judge-connected-requires
-judge-connected-requires c κs = search needs
-
-enum-known-verdict : tie.Need-enum-known-verdict
-enum-known-verdict c = search needs
-
-enum-told : tie.Need-enum-told
-enum-told c = search needs
 
 connects-requires : tie.Need-connects-requires
 connects-requires c κs = let a = c .before .before .before .before .args in connected-accepted (a .table .now) (a .first) (a .last) _ (c .before .before .judge-connected .ensures) (c .enum-told .given .1)
@@ -33,12 +24,4 @@ returns-3 c =
 
 pub connected-spec : {M : Type 1} → statement M
 connected-spec =
-    tie.close
-    (tie.spec
-    judge-connected-requires
-    enum-known-verdict
-    enum-told
-    connects-requires
-    returns
-    returns-2
-    returns-3)
+    tie.close (tie.spec (λ c κs. search needs) (λ c. search needs) (λ c. search needs) connects-requires returns returns-2 returns-3)

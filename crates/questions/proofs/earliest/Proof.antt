@@ -1,17 +1,8 @@
--- `earliest` meets its contract: each return is a case of the rule. Assumes nothing.
+-- `earliest` meets its contract: each return is a case of the rule.
 use borrow.Author.Needs.{needs}
 use Rattle.questions.proofs.Answered.{earliest-refused, moment-accepted, earliest-nothing, earliest-at}
 use Rattle.questions.proofs.earliest.Statement.{statement}
 use Rattle.questions.proofs.earliest.Tie as tie
-
-judge-moment-requires : tie.Need-judge-moment-requires
-judge-moment-requires c κs = search needs
-
-enum-known-verdict : tie.Need-enum-known-verdict
-enum-known-verdict c = search needs
-
-enum-told : tie.Need-enum-told
-enum-told c = search needs
 
 first-arrival-requires : tie.Need-first-arrival-requires
 first-arrival-requires c κs =
@@ -36,12 +27,4 @@ returns-3 c =
 
 pub earliest-spec : {M : Type 1} → statement M
 earliest-spec =
-    tie.close
-    (tie.spec
-    judge-moment-requires
-    enum-known-verdict
-    enum-told
-    first-arrival-requires
-    returns
-    returns-2
-    returns-3)
+    tie.close (tie.spec (λ c κs. search needs) (λ c. search needs) (λ c. search needs) first-arrival-requires returns returns-2 returns-3)

@@ -1,17 +1,8 @@
--- `latest` meets its contract: each return is a case of the rule. Assumes nothing.
+-- `latest` meets its contract: each return is a case of the rule.
 use borrow.Author.Needs.{needs}
 use Rattle.questions.proofs.Answered.{latest-refused, moment-accepted, latest-nothing, latest-at}
 use Rattle.questions.proofs.latest.Statement.{statement}
 use Rattle.questions.proofs.latest.Tie as tie
-
-judge-moment-requires : tie.Need-judge-moment-requires
-judge-moment-requires c κs = search needs
-
-enum-known-verdict : tie.Need-enum-known-verdict
-enum-known-verdict c = search needs
-
-enum-told : tie.Need-enum-told
-enum-told c = search needs
 
 last-departure-requires : tie.Need-last-departure-requires
 last-departure-requires c κs =
@@ -36,12 +27,4 @@ returns-3 c =
 
 pub latest-spec : {M : Type 1} → statement M
 latest-spec =
-    tie.close
-    (tie.spec
-    judge-moment-requires
-    enum-known-verdict
-    enum-told
-    last-departure-requires
-    returns
-    returns-2
-    returns-3)
+    tie.close (tie.spec (λ c κs. search needs) (λ c. search needs) (λ c. search needs) last-departure-requires returns returns-2 returns-3)

@@ -1,17 +1,8 @@
--- `reach_checked` meets its contract: each return is a case of the rule. Assumes nothing.
+-- `reach_checked` meets its contract: each return is a case of the rule.
 use borrow.Author.Needs.{needs}
 use Rattle.questions.proofs.Answered.{reach-refused, reach-accepted, reach-yes, reach-no}
 use Rattle.questions.proofs.reach_checked.Statement.{statement}
 use Rattle.questions.proofs.reach_checked.Tie as tie
-
-judge-reach-checked-requires : tie.Need-judge-reach-checked-requires
-judge-reach-checked-requires c κs = search needs
-
-enum-known-verdict : tie.Need-enum-known-verdict
-enum-known-verdict c = search needs
-
-enum-told : tie.Need-enum-told
-enum-told c = search needs
 
 reaches-requires : tie.Need-reaches-requires
 reaches-requires c κs =
@@ -36,12 +27,4 @@ returns-3 c =
 
 pub reach-checked-spec : {M : Type 1} → statement M
 reach-checked-spec =
-    tie.close
-    (tie.spec
-    judge-reach-checked-requires
-    enum-known-verdict
-    enum-told
-    reaches-requires
-    returns
-    returns-2
-    returns-3)
+    tie.close (tie.spec (λ c κs. search needs) (λ c. search needs) (λ c. search needs) reaches-requires returns returns-2 returns-3)

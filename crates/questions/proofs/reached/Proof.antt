@@ -1,20 +1,8 @@
--- `reached` meets its contract: each return is a case of the rule. Assumes nothing.
+-- `reached` meets its contract: each return is a case of the rule.
 use borrow.Author.Needs.{needs}
 use Rattle.questions.proofs.Answered.{reached-refused, reached-accepted, reached-found}
 use Rattle.questions.proofs.reached.Statement.{statement}
 use Rattle.questions.proofs.reached.Tie as tie
-
-judge-reached-requires : tie.Need-judge-reached-requires
-judge-reached-requires c κs = search needs
-
-enum-known-verdict : tie.Need-enum-known-verdict
-enum-known-verdict c = search needs
-
-empty-requires : tie.Need-empty-requires
-empty-requires c κs = search needs
-
-enum-told : tie.Need-enum-told
-enum-told c = search needs
 
 collect-requires : tie.Need-collect-requires
 collect-requires c κs =
@@ -37,12 +25,4 @@ returns-2 c =
 
 pub reached-spec : {M : Type 1} → statement M
 reached-spec =
-    tie.close
-    (tie.spec
-    judge-reached-requires
-    enum-known-verdict
-    empty-requires
-    enum-told
-    collect-requires
-    returns
-    returns-2)
+    tie.close (tie.spec (λ c κs. search needs) (λ c. search needs) (λ c κs. search needs) (λ c. search needs) collect-requires returns returns-2)

@@ -1,4 +1,4 @@
--- `reaches` meets its contract: the pair is reached where its earliest arrival is not after the last tick. Assumes nothing.
+-- `reaches` meets its contract: the pair is reached where its earliest arrival is not after the last tick.
 use borrow.Author.Needs.{needs}
 use Rattle.questions.proofs.Pairs.{reaches-none, reaches-by}
 use Rattle.questions.proofs.reaches.Statement.{statement}

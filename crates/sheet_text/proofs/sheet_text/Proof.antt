@@ -1,12 +1,12 @@
--- `sheet_text` meets its contract. Assumes nothing.
+-- `sheet_text` meets its contract.
 use borrow.Author.Needs.{needs}
 use Prim.Native.Nat.{ℕ}
 use mathlib.Core.Path.{ap, _∙_}
 use native.Mathlib.Omega.{arith}
 use lib.ListN.{length, length-replicate}
 use Rattle.rules.specs.Sheet.{sheetText}
-use Rattle.lines.specs.Onto.{onto}
-use Rattle.lines.proofs.Lengths.{sheet-fits}
+use Rattle.table_text.specs.Onto.{onto}
+use Rattle.table_text.proofs.Lengths.{sheet-fits}
 use Rattle.sheet_text.proofs.sheet_text.Statement.{statement}
 use Rattle.sheet_text.proofs.sheet_text.Tie as tie
 

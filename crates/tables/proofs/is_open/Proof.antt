@@ -1,4 +1,4 @@
--- `is_open` meets its contract: each of its returns is a case of the check. Assumes nothing.
+-- `is_open` meets its contract: each of its returns is a case of the check.
 use native.Mathlib.Omega.{arith}
 use borrow.Author.Needs.{needs}
 use mathlib.Core.Path.{ap₂, _∙_}
@@ -11,20 +11,8 @@ use Rattle.tables.proofs.is_open.Tie as tie
 returns : tie.Need-returns
 returns c = open-none _ (omega arith)
 
-shared-slice-read-w : tie.Need-shared-slice-read-w
-shared-slice-read-w c = search needs
-
-is-opening-requires : tie.Need-is-opening-requires
-is-opening-requires c κs = search needs
-
 returns-2 : tie.Need-returns-2
 returns-2 c = open-kind _ (stopped (c .before .is-opening .ensures) (c .if2 .taken))
-
-of-word-requires : tie.Need-of-word-requires
-of-word-requires c κs = search needs
-
-table-length-requires : tie.Need-table-length-requires
-table-length-requires c κs = search needs
 
 returns-3 : tie.Need-returns-3
 returns-3 c =
@@ -35,12 +23,4 @@ returns-3 c =
 
 pub is-open-spec : {M : Type 1} → statement M
 is-open-spec =
-    tie.close
-    (tie.spec
-    returns
-    shared-slice-read-w
-    is-opening-requires
-    returns-2
-    of-word-requires
-    table-length-requires
-    returns-3)
+    tie.close (tie.spec returns (λ c. search needs) (λ c κs. search needs) returns-2 (λ c κs. search needs) (λ c κs. search needs) returns-3)

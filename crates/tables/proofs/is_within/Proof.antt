@@ -1,4 +1,4 @@
--- `is_within` meets its contract. Assumes nothing.
+-- `is_within` meets its contract.
 use native.Mathlib.Omega.{arith}
 use mathlib.Core.Path.{refl}
 use borrow.Author.Tests.{le-leb, lt-leb}

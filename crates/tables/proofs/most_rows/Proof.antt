@@ -1,4 +1,4 @@
--- `most_rows` meets its contract. Assumes nothing.
+-- `most_rows` meets its contract.
 use native.Mathlib.Omega.{arith}
 use mathlib.Core.Path.{refl}
 use borrow.Author.Tests.{eq-eqb, ne-eqb}

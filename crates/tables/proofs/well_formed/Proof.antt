@@ -1,4 +1,4 @@
--- `well_formed` meets its contract: the opening word says how the words after it lie in rows of cells. Assumes nothing.
+-- `well_formed` meets its contract: the opening word says how the words after it lie in rows of cells.
 use native.Mathlib.Omega.{arith}
 use borrow.Author.Needs.{needs}
 use mathlib.Core.Path.{_∙_}
@@ -12,23 +12,14 @@ use Rattle.tables.proofs.well_formed.Tie as tie
 shared-slice-read-of-word : tie.Need-shared-slice-read-of-word
 shared-slice-read-of-word c = let s = c .before .before in omega (arith, opens-length (s .args .table .now) (s .pre))
 
-of-word-requires : tie.Need-of-word-requires
-of-word-requires c κs = search needs
+sub-all-cells-well-formed : tie.Need-sub-all-cells-well-formed
+sub-all-cells-well-formed c = let s = c .before .before .before in omega (arith, opens-length (s .args .table .now) (s .pre))
 
-sub-rows-well-formed : tie.Need-sub-rows-well-formed
-sub-rows-well-formed c = let s = c .before .before .before in omega (arith, opens-length (s .args .table .now) (s .pre))
+part-all-cells-well-formed-start : tie.Need-part-all-cells-well-formed-start
+part-all-cells-well-formed-start c = let s = c .before .before .before in omega (arith, opens-length (s .args .table .now) (s .pre))
 
-part-rows-well-formed-start : tie.Need-part-rows-well-formed-start
-part-rows-well-formed-start c = let s = c .before .before .before in omega (arith, opens-length (s .args .table .now) (s .pre))
-
-part-rows-well-formed-end : tie.Need-part-rows-well-formed-end
-part-rows-well-formed-end c = search needs
-
-cast-rows-well-formed : tie.Need-cast-rows-well-formed
-cast-rows-well-formed c = search needs
-
-rows-well-formed-requires : tie.Need-rows-well-formed-requires
-rows-well-formed-requires c κs =
+all-cells-well-formed-requires : tie.Need-all-cells-well-formed-requires
+all-cells-well-formed-requires c κs =
     let o = c .before .before in
     let s = o .before .before .before in
     let e = o .of-word .ensures in
@@ -41,17 +32,11 @@ returns c =
     let o = c .before .before .before in
     let s = o .before .before .before in
     let e = o .of-word .ensures in
-    c .rows-well-formed .ensures ∙ rows-formed (s .args .table .now) _ _ _ (e .0) (e .1) (e .2)
+    c .all-cells-well-formed .ensures ∙ rows-formed (s .args .table .now) _ _ _ (e .0) (e .1) (e .2)
 
 pub well-formed-spec : {M : Type 1} → statement M
 well-formed-spec =
     tie.close
     (tie.spec
-    shared-slice-read-of-word
-    of-word-requires
-    sub-rows-well-formed
-    part-rows-well-formed-start
-    part-rows-well-formed-end
-    cast-rows-well-formed
-    rows-well-formed-requires
-    returns)
+    shared-slice-read-of-word (λ c κs. search needs) sub-all-cells-well-formed part-all-cells-well-formed-start (λ c. search needs) (λ c. search needs)
+    all-cells-well-formed-requires returns)

@@ -1,5 +1,5 @@
 -- `write_cells` meets its contract. The loop's invariant: the first k cells are empty. The measure is the number of cells left.
--- Assumes nothing.
+--
 use native.Mathlib.Omega.{arith}
 use Prim.Native.Nat.{_+_, _-_, _≤_}
 use lib.ListN.{length}
@@ -29,12 +29,6 @@ add-end c = omega (arith, room c)
 mul-write-empty : tie.Need-mul-write-empty Inv-loop μ-loop
 mul-write-empty c = omega (arith, room c)
 
-sub-write-empty : tie.Need-sub-write-empty Inv-loop μ-loop
-sub-write-empty c = omega arith
-
-part-write-empty-start : tie.Need-part-write-empty-start Inv-loop μ-loop
-part-write-empty-start c = omega arith
-
 part-write-empty-end : tie.Need-part-write-empty-end Inv-loop μ-loop
 part-write-empty-end c = omega (arith, room c)
 
@@ -44,12 +38,6 @@ write-empty-requires c κs =
     let l = t .before in
     let s = l .before .before in
     omega (arith, lent-length (l .loop .body) (l .loop .at) (s .args .size) (omega (arith, room t)))
-
-add-k : tie.Need-add-k Inv-loop μ-loop
-add-k c = omega arith
-
-loop-less : tie.Need-loop-less Inv-loop μ-loop
-loop-less c = omega arith
 
 loop-again : tie.Need-loop-again Inv-loop μ-loop
 unfolding emptied
@@ -68,17 +56,5 @@ pub write-cells-spec : {M : Type 1} → statement M
 write-cells-spec =
     tie.close
     (tie.spec
-    Inv-loop
-    μ-loop
-    loop-holds
-    add-end
-    mul-write-empty
-    sub-write-empty
-    part-write-empty-start
-    part-write-empty-end
-    write-empty-requires
-    add-k
-    loop-less
-    loop-again
-    same-length
-    returns)
+    Inv-loop μ-loop loop-holds add-end mul-write-empty (λ c. omega arith) (λ c. omega arith) part-write-empty-end write-empty-requires
+    (λ c. omega arith) (λ c. omega arith) loop-again same-length returns)

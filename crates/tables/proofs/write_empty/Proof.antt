@@ -1,5 +1,5 @@
 -- `write_empty` meets its contract. The loop's invariant: the first i words are those of an empty cell. The measure is the number of words left.
--- Assumes nothing.
+--
 use native.Mathlib.Omega.{arith}
 use borrow.Author.Needs.{needs}
 use Prim.Native.Nat.{_-_}
@@ -17,15 +17,6 @@ Inv-loop cell₀ unused i₀ i-end cell i = Emptied (length cell₀ - 1) cell i
 abbrev μ-loop : tie.MeasureT-loop
 μ-loop cell₀ unused i₀ i-end cell i = length cell₀ - i
 
-count-word-requires : tie.Need-count-word-requires Inv-loop μ-loop
-count-word-requires c κs = search needs
-
-slice-write-cell : tie.Need-slice-write-cell Inv-loop μ-loop
-slice-write-cell c = omega arith
-
-unused-word-requires : tie.Need-unused-word-requires Inv-loop μ-loop
-unused-word-requires c κs = search needs
-
 loop-holds : tie.Need-loop-holds Inv-loop μ-loop
 loop-holds c =
     let w = c .before in
@@ -36,14 +27,8 @@ loop-holds c =
 mul-cell : tie.Need-mul-cell Inv-loop μ-loop
 mul-cell c = let s = c .before .before .before .before .before in omega (arith, length-set (s .args .cell .now) 0 (c .before .before .before .count-word .result))
 
-slice-write-cell-2 : tie.Need-slice-write-cell-2 Inv-loop μ-loop
-slice-write-cell-2 c = omega arith
-
 add-i : tie.Need-add-i Inv-loop μ-loop
 add-i c = let s = c .before .before .before .before .before in omega (arith, length-set (s .args .cell .now) 0 (c .before .before .before .count-word .result))
-
-loop-less : tie.Need-loop-less Inv-loop μ-loop
-loop-less c = omega arith
 
 loop-again : tie.Need-loop-again Inv-loop μ-loop
 loop-again c = emptied-turn (c .before .loop .inv) _ (omega arith) (c .before .before .unused-word .ensures)
@@ -65,16 +50,5 @@ pub write-empty-spec : {M : Type 1} → statement M
 write-empty-spec =
     tie.close
     (tie.spec
-    Inv-loop
-    μ-loop
-    count-word-requires
-    slice-write-cell
-    unused-word-requires
-    loop-holds
-    mul-cell
-    slice-write-cell-2
-    add-i
-    loop-less
-    loop-again
-    same-length
-    returns)
+    Inv-loop μ-loop (λ c κs. search needs) (λ c. omega arith) (λ c κs. search needs) loop-holds mul-cell (λ c. omega arith) add-i (λ c. omega arith)
+    loop-again same-length returns)

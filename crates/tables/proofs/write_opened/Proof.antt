@@ -1,4 +1,4 @@
--- `write_opened` meets its contract: the opening word and the empty cells are the whole table. Assumes nothing.
+-- `write_opened` meets its contract: the opening word and the empty cells are the whole table.
 use native.Mathlib.Omega.{arith}
 use borrow.Author.Needs.{needs}
 use Prim.Native.Nat.{_-_}
@@ -9,32 +9,11 @@ use Rattle.tables.proofs.Rows.{rest-length, opened-table}
 use Rattle.tables.proofs.write_opened.Statement.{statement}
 use Rattle.tables.proofs.write_opened.Tie as tie
 
-cast-n : tie.Need-cast-n
-cast-n c = search needs
-
-cast-size : tie.Need-cast-size
-cast-size c = search needs
-
-add-size : tie.Need-add-size
-add-size c = search needs
-
-opening-word-requires : tie.Need-opening-word-requires
-opening-word-requires c κs = search needs
-
-slice-write-table : tie.Need-slice-write-table
-slice-write-table c = search needs
-
 sub-write-cells : tie.Need-sub-write-cells
 sub-write-cells c = let s = c .before .before .before .before in omega (arith, length-set (s .args .table .now) 0 (c .opening-word .result))
 
 part-write-cells-start : tie.Need-part-write-cells-start
 part-write-cells-start c = let s = c .before .before .before .before in omega (arith, length-set (s .args .table .now) 0 (c .opening-word .result))
-
-part-write-cells-end : tie.Need-part-write-cells-end
-part-write-cells-end c = search needs
-
-mul-write-cells : tie.Need-mul-write-cells
-mul-write-cells c = search needs
 
 write-cells-requires : tie.Need-write-cells-requires
 write-cells-requires c κs =
@@ -64,15 +43,5 @@ pub write-opened-spec : {M : Type 1} → statement M
 write-opened-spec =
     tie.close
     (tie.spec
-    cast-n
-    cast-size
-    add-size
-    opening-word-requires
-    slice-write-table
-    sub-write-cells
-    part-write-cells-start
-    part-write-cells-end
-    mul-write-cells
-    write-cells-requires
-    same-length
-    returns)
+    (λ c. search needs) (λ c. search needs) (λ c. search needs) (λ c κs. search needs) (λ c. search needs) sub-write-cells part-write-cells-start
+    (λ c. search needs) (λ c. search needs) write-cells-requires same-length returns)

@@ -1,4 +1,4 @@
--- `ends::arrival` meets its contract: the cell read is the one from v to y. Assumes nothing.
+-- `ends::arrival` meets its contract: the cell read is the one from v to y.
 use native.Mathlib.Omega.{arith}
 use borrow.Author.Needs.{needs}
 use Rattle.adding.proofs.Places.{Place, place}
@@ -28,12 +28,6 @@ add-end c = let p = here c in omega arith
 mul-earliest-arrival : tie.Need-mul-earliest-arrival
 mul-earliest-arrival c = let p = here c in omega arith
 
-sub-earliest-arrival : tie.Need-sub-earliest-arrival
-sub-earliest-arrival c = search needs
-
-part-earliest-arrival-start : tie.Need-part-earliest-arrival-start
-part-earliest-arrival-start c = search needs
-
 part-earliest-arrival-end : tie.Need-part-earliest-arrival-end
 part-earliest-arrival-end c = let p = here c in omega arith
 
@@ -47,14 +41,5 @@ pub arrival-spec : {M : Type 1} → statement M
 arrival-spec =
     tie.close
     (tie.spec
-    returns
-    mul-at
-    add-at
-    mul-at-2
-    add-end
-    mul-earliest-arrival
-    sub-earliest-arrival
-    part-earliest-arrival-start
-    part-earliest-arrival-end
-    earliest-arrival-requires
-    returns-2)
+    returns mul-at add-at mul-at-2 add-end mul-earliest-arrival (λ c. search needs) (λ c. search needs) part-earliest-arrival-end
+    earliest-arrival-requires returns-2)

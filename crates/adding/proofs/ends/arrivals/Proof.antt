@@ -1,5 +1,5 @@
 -- `ends::arrivals` meets its contract. The loop's invariant: the array holds the arrivals of the animals passed.
--- The measure is how many animals are left. Assumes nothing.
+-- The measure is how many animals are left.
 use Prim.Native.Nat.{_≤_, _-_}
 use mathlib.Core.Path.{_≡_, refl, _∙_}
 use native.Mathlib.Omega.{arith}
@@ -8,9 +8,10 @@ use Rattle.adding.specs.Steps.{arriving, Listed}
 use Rattle.adding.proofs.Places.{listed-turn}
 use Rattle.adding.proofs.ends.arrivals.Statement.{statement}
 use Rattle.adding.proofs.ends.arrivals.Tie as tie
+use Rattle.rules.specs.Limits.{maxAnimals}
 
 abbrev Inv-loop : tie.InvT-loop
-Inv-loop body n size v a e₀ y₀ e y = (y ≤ n) × (length e ≡ 256) × Listed y (arriving n size body v a) e
+Inv-loop body n size v a e₀ y₀ e y = (y ≤ n) × (length e ≡ maxAnimals) × Listed y (arriving n size body v a) e
 
 abbrev μ-loop : tie.MeasureT-loop
 μ-loop body n size v a e₀ y₀ e y = n - y
@@ -27,12 +28,6 @@ mul-e c = let b = c .before .before .before .before .pre .0 in omega (arith, b .
 array-write-e : tie.Need-array-write-e Inv-loop μ-loop
 array-write-e c = let b = c .before .before .before .before .pre .0 in omega (arith, b .few)
 
-add-y : tie.Need-add-y Inv-loop μ-loop
-add-y c = omega arith
-
-loop-less : tie.Need-loop-less Inv-loop μ-loop
-loop-less c = omega arith
-
 loop-again : tie.Need-loop-again Inv-loop μ-loop
 loop-again c =
     let l = c .before .before in
@@ -44,15 +39,4 @@ returns c = λ k o. c .before .loop .inv .2 k (omega arith)
 
 pub arrivals-spec : {M : Type 1} → statement M
 arrivals-spec =
-    tie.close
-    (tie.spec
-    Inv-loop
-    μ-loop
-    loop-holds
-    arrival-requires
-    mul-e
-    array-write-e
-    add-y
-    loop-less
-    loop-again
-    returns)
+    tie.close (tie.spec Inv-loop μ-loop loop-holds arrival-requires mul-e array-write-e (λ c. omega arith) (λ c. omega arith) loop-again returns)

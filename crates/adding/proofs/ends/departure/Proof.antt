@@ -1,4 +1,4 @@
--- `ends::departure` meets its contract: the cell read is the one from x to u. Assumes nothing.
+-- `ends::departure` meets its contract: the cell read is the one from x to u.
 use native.Mathlib.Omega.{arith}
 use borrow.Author.Needs.{needs}
 use Rattle.adding.proofs.Places.{Place, place}
@@ -28,12 +28,6 @@ add-end c = let p = here c in omega arith
 mul-latest-departure : tie.Need-mul-latest-departure
 mul-latest-departure c = let p = here c in omega arith
 
-sub-latest-departure : tie.Need-sub-latest-departure
-sub-latest-departure c = search needs
-
-part-latest-departure-start : tie.Need-part-latest-departure-start
-part-latest-departure-start c = search needs
-
 part-latest-departure-end : tie.Need-part-latest-departure-end
 part-latest-departure-end c = let p = here c in omega arith
 
@@ -47,14 +41,5 @@ pub departure-spec : {M : Type 1} → statement M
 departure-spec =
     tie.close
     (tie.spec
-    returns
-    mul-at
-    add-at
-    mul-at-2
-    add-end
-    mul-latest-departure
-    sub-latest-departure
-    part-latest-departure-start
-    part-latest-departure-end
-    latest-departure-requires
-    returns-2)
+    returns mul-at add-at mul-at-2 add-end mul-latest-departure (λ c. search needs) (λ c. search needs) part-latest-departure-end
+    latest-departure-requires returns-2)

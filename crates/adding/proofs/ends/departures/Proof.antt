@@ -1,5 +1,5 @@
 -- `ends::departures` meets its contract. The loop's invariant: the array holds the departures of the animals passed.
--- The measure is how many animals are left. Assumes nothing.
+-- The measure is how many animals are left.
 use Prim.Native.Nat.{_≤_, _-_}
 use mathlib.Core.Path.{_≡_, refl, _∙_}
 use native.Mathlib.Omega.{arith}
@@ -8,9 +8,10 @@ use Rattle.adding.specs.Steps.{departing, Listed}
 use Rattle.adding.proofs.Places.{listed-turn}
 use Rattle.adding.proofs.ends.departures.Statement.{statement}
 use Rattle.adding.proofs.ends.departures.Tie as tie
+use Rattle.rules.specs.Limits.{maxAnimals}
 
 abbrev Inv-loop : tie.InvT-loop
-Inv-loop body n size u t d₀ x₀ d x = (x ≤ n) × (length d ≡ 256) × Listed x (departing n size body u t) d
+Inv-loop body n size u t d₀ x₀ d x = (x ≤ n) × (length d ≡ maxAnimals) × Listed x (departing n size body u t) d
 
 abbrev μ-loop : tie.MeasureT-loop
 μ-loop body n size u t d₀ x₀ d x = n - x
@@ -27,12 +28,6 @@ mul-d c = let b = c .before .before .before .before .pre .0 in omega (arith, b .
 array-write-d : tie.Need-array-write-d Inv-loop μ-loop
 array-write-d c = let b = c .before .before .before .before .pre .0 in omega (arith, b .few)
 
-add-x : tie.Need-add-x Inv-loop μ-loop
-add-x c = omega arith
-
-loop-less : tie.Need-loop-less Inv-loop μ-loop
-loop-less c = omega arith
-
 loop-again : tie.Need-loop-again Inv-loop μ-loop
 loop-again c =
     let l = c .before .before in
@@ -44,15 +39,4 @@ returns c = λ k o. c .before .loop .inv .2 k (omega arith)
 
 pub departures-spec : {M : Type 1} → statement M
 departures-spec =
-    tie.close
-    (tie.spec
-    Inv-loop
-    μ-loop
-    loop-holds
-    departure-requires
-    mul-d
-    array-write-d
-    add-x
-    loop-less
-    loop-again
-    returns)
+    tie.close (tie.spec Inv-loop μ-loop loop-holds departure-requires mul-d array-write-d (λ c. omega arith) (λ c. omega arith) loop-again returns)

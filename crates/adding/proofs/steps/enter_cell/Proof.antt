@@ -1,4 +1,4 @@
--- `steps::enter_cell` meets its contract: each way through it is one turn. Assumes nothing.
+-- `steps::enter_cell` meets its contract: each way through it is one turn.
 use mathlib.Core.Path.{sym, ap, _∙_}
 use mathlib.Core.Bool.{Bool, cond}
 use borrow.Author.Needs.{needs}

@@ -1,5 +1,5 @@
 -- `steps::enter_row` meets its contract. The loop's invariant: the cells passed are replaced, and those that changed are counted.
--- The measure is how many cells are left. Assumes nothing.
+-- The measure is how many cells are left.
 use Prim.Native.Nat.{_+_, _-_, _*_, _≤_}
 use mathlib.Core.Path.{_≡_, ap, _∙_}
 use native.Mathlib.Omega.{arith}
@@ -41,12 +41,6 @@ add-end c = let w = c .before .loop .inv .0 in omega (arith, room c, w .len)
 mul-enter-cell : tie.Need-mul-enter-cell Inv-loop μ-loop
 mul-enter-cell c = let w = c .before .loop .inv .0 in omega (arith, room c, w .len)
 
-sub-enter-cell : tie.Need-sub-enter-cell Inv-loop μ-loop
-sub-enter-cell c = omega arith
-
-part-enter-cell-start : tie.Need-part-enter-cell-start Inv-loop μ-loop
-part-enter-cell-start c = omega arith
-
 part-enter-cell-end : tie.Need-part-enter-cell-end Inv-loop μ-loop
 part-enter-cell-end c = omega (arith, room c)
 
@@ -63,7 +57,7 @@ enter-cell-requires c κs =
     let b = l .before in
     let s = b .before .before in (
       walk-lent (l .loop .inv .0) Stored (s .pre .0 .cells (l .loop .y) (t .loop-test .taken)),
-      (omega arith, omega (arith, lent-length (l .loop .row) (l .loop .at) (s .args .size) (room t)), s .pre .1 .1 (l .loop .y) (t .loop-test .taken)),
+      (omega arith, omega (arith, lent-length (l .loop .row) (l .loop .at) (s .args .size) (room t)), omega (arith, s .pre .1 .1 (l .loop .y) (t .loop-test .taken))),
     )
 
 -- The count stays within the cells passed.
@@ -79,12 +73,6 @@ add-changed c =
     let t = k .before .before .before in
     let r = t .before .before .before .before .pre .0 in
     omega (arith, small k, r .few, t .loop-test .taken)
-
-add-y : tie.Need-add-y Inv-loop μ-loop
-add-y c = omega arith
-
-loop-less : tie.Need-loop-less Inv-loop μ-loop
-loop-less c = omega arith
 
 loop-again : tie.Need-loop-again Inv-loop μ-loop
 unfolding stepAt
@@ -112,21 +100,5 @@ pub enter-row-spec : {M : Type 1} → statement M
 enter-row-spec =
     tie.close
     (tie.spec
-    Inv-loop
-    μ-loop
-    returns
-    loop-holds
-    add-end
-    mul-enter-cell
-    sub-enter-cell
-    part-enter-cell-start
-    part-enter-cell-end
-    mul-enter-cell-2
-    element-copy-out-enter-cell
-    enter-cell-requires
-    add-changed
-    add-y
-    loop-less
-    loop-again
-    same-length
-    returns-2)
+    Inv-loop μ-loop returns loop-holds add-end mul-enter-cell (λ c. omega arith) (λ c. omega arith) part-enter-cell-end mul-enter-cell-2
+    element-copy-out-enter-cell enter-cell-requires add-changed (λ c. omega arith) (λ c. omega arith) loop-again same-length returns-2)

@@ -1,10 +1,11 @@
 -- `steps::enter_rows` meets its contract. The loop's invariant: the rows passed are replaced, and the cells that changed are counted.
--- The measure is how many rows are left. Assumes nothing.
+-- The measure is how many rows are left.
 use Prim.Native.Nat.{_+_, _-_, _*_, _≤_}
 use mathlib.Core.Path.{_≡_, ap, _∙_}
 use native.Mathlib.Nat.{mul-le-mul}
 use native.Mathlib.Omega.{arith}
 use lib.ListN.{length}
+use Rattle.rules.specs.Limits.{maxAnimals, maxCells}
 use Rattle.rules.specs.Folds.{sumBelow}
 use Rattle.parts.proofs.Walk.{Walk, walk-start, walk-room, walk-same, walk-lent, walk-turn, walk-end}
 use Rattle.adding.specs.Steps.{Row, stepRow, rowMoves}
@@ -39,12 +40,6 @@ add-end c = let w = c .before .loop .inv .0 in omega (arith, room c, w .len)
 mul-enter-row : tie.Need-mul-enter-row Inv-loop μ-loop
 mul-enter-row c = let w = c .before .loop .inv .0 in omega (arith, room c, w .len)
 
-sub-enter-row : tie.Need-sub-enter-row Inv-loop μ-loop
-sub-enter-row c = omega arith
-
-part-enter-row-start : tie.Need-part-enter-row-start Inv-loop μ-loop
-part-enter-row-start c = omega arith
-
 part-enter-row-end : tie.Need-part-enter-row-end Inv-loop μ-loop
 part-enter-row-end c = omega (arith, room c)
 
@@ -65,7 +60,7 @@ enter-row-requires c κs =
     )
 
 -- The count stays within the cells passed.
-small : (c : tie.After-enter-row Inv-loop μ-loop) → let l = c .before .before .before .before in l .loop .changed + c .enter-row .result ≤ 65792
+small : (c : tie.After-enter-row Inv-loop μ-loop) → let l = c .before .before .before .before in l .loop .changed + c .enter-row .result ≤ maxCells + maxAnimals
 small c =
     let t = c .before .before .before in
     let l = t .before in
@@ -76,12 +71,6 @@ small c =
 
 add-changed : tie.Need-add-changed Inv-loop μ-loop
 add-changed c = omega (arith, small (c .before .before))
-
-add-x : tie.Need-add-x Inv-loop μ-loop
-add-x c = omega arith
-
-loop-less : tie.Need-loop-less Inv-loop μ-loop
-loop-less c = omega arith
 
 loop-again : tie.Need-loop-again Inv-loop μ-loop
 unfolding stepRow
@@ -109,21 +98,5 @@ pub enter-rows-spec : {M : Type 1} → statement M
 enter-rows-spec =
     tie.close
     (tie.spec
-    Inv-loop
-    μ-loop
-    mul-width
-    loop-holds
-    add-end
-    mul-enter-row
-    sub-enter-row
-    part-enter-row-start
-    part-enter-row-end
-    mul-enter-row-2
-    element-copy-out-enter-row
-    enter-row-requires
-    add-changed
-    add-x
-    loop-less
-    loop-again
-    same-length
-    returns)
+    Inv-loop μ-loop mul-width loop-holds add-end mul-enter-row (λ c. omega arith) (λ c. omega arith) part-enter-row-end mul-enter-row-2
+    element-copy-out-enter-row enter-row-requires add-changed (λ c. omega arith) (λ c. omega arith) loop-again same-length returns)

@@ -1,5 +1,5 @@
 -- `cell::append` meets its contract: a row more has room, since the departures are different ticks from 1 on, all below d.
--- Assumes nothing.
+--
 use borrow.Author.Needs.{needs}
 use Prim.Native.Nat.{_+_}
 use mathlib.Core.Logic.{⊎-elim}
@@ -11,15 +11,6 @@ use Rattle.building.proofs.Appending.{Behind, rows-are, put-kept, put-o
 use Rattle.building.proofs.cell.append.Statement.{statement}
 use Rattle.building.proofs.cell.append.Tie as tie
 
-slice-read-rows-of : tie.Need-slice-read-rows-of
-slice-read-rows-of c = search needs
-
-rows-of-requires : tie.Need-rows-of-requires
-rows-of-requires c κs = search needs
-
-cast-last : tie.Need-cast-last
-cast-last c = search needs
-
 interval-word-requires : tie.Need-interval-word-requires
 interval-word-requires c κs = omega (arith, c .before .before .before .pre .0 .short)
 
@@ -28,9 +19,6 @@ mul-departure-of c = omega (arith, rows-are (c .before .before .before .before .
 
 slice-read-departure-of : tie.Need-slice-read-departure-of
 slice-read-departure-of c = omega (arith, rows-are (c .before .before .before .before .before .before .args .cell .now) (c .before .before .before .before .before .before .pre .0) (c .before .before .before .rows-of .result) (c .before .before .before .rows-of .ensures) (interval (c .before .before .before .before .before .before .args .d) (c .before .before .before .before .before .before .args .a)), c .before .before .before .before .before .before .pre .0 .fits, c .before .before .before .before .before .before .pre .0 .short)
-
-departure-of-requires : tie.Need-departure-of-requires
-departure-of-requires c κs = search needs
 
 returns : tie.Need-returns
 returns c = put-kept (c .before .before .before .before .before .before .before .before .args .cell .now) (c .before .before .before .before .before .before .before .before .pre .0) (c .before .before .before .before .before .rows-of .result) (c .before .before .before .before .before .rows-of .ensures) (interval (c .before .before .before .before .before .before .before .before .args .d) (c .before .before .before .before .before .before .before .before .args .a)) (omega arith) (omega (arith, c .before .departure-of .ensures))
@@ -41,17 +29,11 @@ mul-arrival-of c = omega (arith, rows-are (c .before .before .before .before .be
 slice-read-arrival-of : tie.Need-slice-read-arrival-of
 slice-read-arrival-of c = omega (arith, rows-are (c .before .before .before .before .before .before .before .before .before .args .cell .now) (c .before .before .before .before .before .before .before .before .before .pre .0) (c .before .before .before .before .before .before .rows-of .result) (c .before .before .before .before .before .before .rows-of .ensures) (interval (c .before .before .before .before .before .before .before .before .before .args .d) (c .before .before .before .before .before .before .before .before .before .args .a)), c .before .before .before .before .before .before .before .before .before .pre .0 .fits, c .before .before .before .before .before .before .before .before .before .pre .0 .short)
 
-arrival-of-requires : tie.Need-arrival-of-requires
-arrival-of-requires c κs = search needs
-
 mul-cell : tie.Need-mul-cell
 mul-cell c = omega (arith, rows-are (c .before .before .before .before .before .before .before .before .before .before .before .args .cell .now) (c .before .before .before .before .before .before .before .before .before .before .before .pre .0) (c .before .before .before .before .before .before .before .before .rows-of .result) (c .before .before .before .before .before .before .before .before .rows-of .ensures) (interval (c .before .before .before .before .before .before .before .before .before .before .before .args .d) (c .before .before .before .before .before .before .before .before .before .before .before .args .a)), c .before .before .before .before .before .before .before .before .before .before .before .pre .0 .fits, c .before .before .before .before .before .before .before .before .before .before .before .pre .0 .short)
 
 slice-write-cell : tie.Need-slice-write-cell
 slice-write-cell c = omega (arith, rows-are (c .before .before .before .before .before .before .before .before .before .before .before .args .cell .now) (c .before .before .before .before .before .before .before .before .before .before .before .pre .0) (c .before .before .before .before .before .before .before .before .rows-of .result) (c .before .before .before .before .before .before .before .before .rows-of .ensures) (interval (c .before .before .before .before .before .before .before .before .before .before .before .args .d) (c .before .before .before .before .before .before .before .before .before .before .before .args .a)), c .before .before .before .before .before .before .before .before .before .before .before .pre .0 .fits, c .before .before .before .before .before .before .before .before .before .before .before .pre .0 .short)
-
-same-length : tie.Need-same-length
-same-length c = search needs
 
 returns-2 : tie.Need-returns-2
 returns-2 c = put-over (c .before .before .before .before .before .before .before .before .before .before .before .args .cell .now) (c .before .before .before .before .before .before .before .before .before .before .before .pre .0) (c .before .before .before .before .before .before .before .before .rows-of .result) (c .before .before .before .before .before .before .before .before .rows-of .ensures) (interval (c .before .before .before .before .before .before .before .before .before .before .before .args .d) (c .before .before .before .before .before .before .before .before .before .before .before .args .a)) (omega arith) (omega (arith, c .before .before .before .before .departure-of .ensures)) (omega (arith, c .before .arrival-of .ensures)) _ (c .before .before .before .before .before .before .before .interval-word .ensures)
@@ -88,9 +70,6 @@ count-word-requires c κs = omega (arith, rows-are (c .before .before .before .b
 slice-write-cell-3 : tie.Need-slice-write-cell-3
 slice-write-cell-3 c = omega (arith, length-set (c .before .before .before .before .before .before .args .cell .now) (c .before .before .before .rows-of .result + 1) (c .before .before .interval-word .result), c .before .before .before .before .before .before .pre .0 .fits)
 
-same-length-2 : tie.Need-same-length-2
-same-length-2 c = search needs
-
 returns-3 : tie.Need-returns-3
 returns-3 c = put-more (c .before .before .before .before .before .before .args .cell .now) (c .before .before .before .before .before .before .pre .0) (c .before .before .before .rows-of .result) (c .before .before .before .rows-of .ensures) (interval (c .before .before .before .before .before .before .args .d) (c .before .before .before .before .before .before .args .a)) (behind (c .before)) (c .before .before .before .before .before .before .pre .1 .1) _ _ (c .before .before .interval-word .ensures) (c .count-word .ensures)
 
@@ -98,26 +77,6 @@ pub append-spec : {M : Type 1} → statement M
 append-spec =
     tie.close
     (tie.spec
-    slice-read-rows-of
-    rows-of-requires
-    cast-last
-    interval-word-requires
-    mul-departure-of
-    slice-read-departure-of
-    departure-of-requires
-    returns
-    mul-arrival-of
-    slice-read-arrival-of
-    arrival-of-requires
-    mul-cell
-    slice-write-cell
-    same-length
-    returns-2
-    add-end
-    mul-cell-2
-    slice-write-cell-2
-    cast-count-word
-    count-word-requires
-    slice-write-cell-3
-    same-length-2
-    returns-3)
+    (λ c. search needs) (λ c κs. search needs) (λ c. search needs) interval-word-requires mul-departure-of slice-read-departure-of
+    (λ c κs. search needs) returns mul-arrival-of slice-read-arrival-of (λ c κs. search needs) mul-cell slice-write-cell (λ c. search needs) returns-2
+    add-end mul-cell-2 slice-write-cell-2 cast-count-word count-word-requires slice-write-cell-3 (λ c. search needs) returns-3)

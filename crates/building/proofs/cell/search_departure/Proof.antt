@@ -1,5 +1,5 @@
 -- `cell::search_departure` meets its contract: the row in front of the place that the search finds is the last that arrives by t.
--- Assumes nothing.
+--
 use borrow.Author.Needs.{needs}
 use Prim.Native.Nat.{_+_}
 use mathlib.Core.Path.{ap, _∙_}
@@ -8,37 +8,19 @@ use Rattle.building.proofs.Words.{count-is, lent-rising, Found, found-b
 use Rattle.building.proofs.cell.search_departure.Statement.{statement}
 use Rattle.building.proofs.cell.search_departure.Tie as tie
 
-shared-slice-read-rows-of : tie.Need-shared-slice-read-rows-of
-shared-slice-read-rows-of c = search needs
+part-upper-bound-arrival-end : tie.Need-part-upper-bound-arrival-end
+part-upper-bound-arrival-end c = let s = c .before .before .before in omega (arith, c .rows-of .ensures, count-is (s .args .cell .now) (s .pre), s .pre .fits)
 
-rows-of-requires : tie.Need-rows-of-requires
-rows-of-requires c κs = search needs
-
-cast-end : tie.Need-cast-end
-cast-end c = search needs
-
-add-end : tie.Need-add-end
-add-end c = search needs
-
-sub-arrived-by : tie.Need-sub-arrived-by
-sub-arrived-by c = search needs
-
-part-arrived-by-start : tie.Need-part-arrived-by-start
-part-arrived-by-start c = search needs
-
-part-arrived-by-end : tie.Need-part-arrived-by-end
-part-arrived-by-end c = let s = c .before .before .before in omega (arith, c .rows-of .ensures, count-is (s .args .cell .now) (s .pre), s .pre .fits)
-
-arrived-by-requires : tie.Need-arrived-by-requires
-arrived-by-requires c κs = let r = c .before in let s = r .before .before .before in lent-rising (s .args .cell .now) (r .rows-of .result + 1) (s .pre) (ap (λ m. m + 1) (r .rows-of .ensures))
+upper-bound-arrival-requires : tie.Need-upper-bound-arrival-requires
+upper-bound-arrival-requires c κs = let r = c .before in let s = r .before .before .before in lent-rising (s .args .cell .now) (r .rows-of .result + 1) (s .pre) (ap (λ m. m + 1) (r .rows-of .ensures))
 
 -- What the search found.
-found : (c : tie.After-arrived-by)
+found : (c : tie.After-upper-bound-arrival)
     → Found (c .before .before .before .before .before .args .t) (c .before .before .before .before .before .args .cell .now)
-    (c .before .before .rows-of .result + 1) (c .arrived-by .result)
+    (c .before .before .rows-of .result + 1) (c .upper-bound-arrival .result)
 found c =
     let r = c .before .before in
-    record { in-use = r .before .before .before .pre; lent = ap (λ m. m + 1) (r .rows-of .ensures); place = c .arrived-by .ensures }
+    record { in-use = r .before .before .before .pre; lent = ap (λ m. m + 1) (r .rows-of .ensures); place = c .upper-bound-arrival .ensures }
 
 returns : tie.Need-returns
 returns c = latest-zero (found (c .before)) (omega arith)
@@ -49,9 +31,6 @@ mul-departure-of c = let g = found (c .before) in omega (arith, found-below g, g
 shared-slice-read-departure-of : tie.Need-shared-slice-read-departure-of
 shared-slice-read-departure-of c = omega (arith, found-below (found (c .before .before)))
 
-departure-of-requires : tie.Need-departure-of-requires
-departure-of-requires c κs = search needs
-
 returns-2 : tie.Need-returns-2
 returns-2 c = c .departure-of .ensures ∙ latest-word (found (c .before .before .before)) (λ z. omega arith)
 
@@ -59,16 +38,5 @@ pub search-departure-spec : {M : Type 1} → statement M
 search-departure-spec =
     tie.close
     (tie.spec
-    shared-slice-read-rows-of
-    rows-of-requires
-    cast-end
-    add-end
-    sub-arrived-by
-    part-arrived-by-start
-    part-arrived-by-end
-    arrived-by-requires
-    returns
-    mul-departure-of
-    shared-slice-read-departure-of
-    departure-of-requires
-    returns-2)
+    (λ c. search needs) (λ c κs. search needs) (λ c. search needs) (λ c. search needs) (λ c. search needs) (λ c. search needs) part-upper-bound-arrival-end
+    upper-bound-arrival-requires returns mul-departure-of shared-slice-read-departure-of (λ c κs. search needs) returns-2)

@@ -1,4 +1,4 @@
--- `column::departure` meets its contract: the cell read is the one from x to u. Assumes nothing.
+-- `column::departure` meets its contract: the cell read is the one from x to u.
 use borrow.Author.Needs.{needs}
 use mathlib.Core.Path.{sym, subst}
 use native.Mathlib.Omega.{arith}
@@ -26,12 +26,6 @@ add-end c = let p = (lies (c .before .before .args .n) (c .before .before .args 
 mul-departure-by : tie.Need-mul-departure-by
 mul-departure-by c = let p = (lies (c .before .before .args .n) (c .before .before .args .size) (c .before .before .args .body .now) (c .before .before .args .x) (c .before .before .args .u) (c .before .before .pre .0 .few) (c .before .before .pre .0 .long) (c .before .before .pre .1 .0) (c .before .before .pre .1 .1)) in omega (arith, p .row, p .column, p .inside, c .before .before .pre .0 .short)
 
-sub-departure-by : tie.Need-sub-departure-by
-sub-departure-by c = search needs
-
-part-departure-by-start : tie.Need-part-departure-by-start
-part-departure-by-start c = search needs
-
 part-departure-by-end : tie.Need-part-departure-by-end
 part-departure-by-end c = let p = (lies (c .before .before .args .n) (c .before .before .args .size) (c .before .before .args .body .now) (c .before .before .args .x) (c .before .before .args .u) (c .before .before .pre .0 .few) (c .before .before .pre .0 .long) (c .before .before .pre .1 .0) (c .before .before .pre .1 .1)) in omega (arith, p .row, p .column, p .inside, c .before .before .pre .0 .short)
 
@@ -45,14 +39,5 @@ pub departure-spec : {M : Type 1} → statement M
 departure-spec =
     tie.close
     (tie.spec
-    returns
-    mul-at
-    add-at
-    mul-at-2
-    add-end
-    mul-departure-by
-    sub-departure-by
-    part-departure-by-start
-    part-departure-by-end
-    departure-by-requires
+    returns mul-at add-at mul-at-2 add-end mul-departure-by (λ c. search needs) (λ c. search needs) part-departure-by-end departure-by-requires
     returns-2)

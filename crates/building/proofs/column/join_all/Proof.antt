@@ -1,4 +1,4 @@
--- `column::join_all` meets its contract. The loop's invariant: the animals passed are joined. Assumes nothing.
+-- `column::join_all` meets its contract. The loop's invariant: the animals passed are joined.
 use borrow.Author.Needs.{needs}
 use Prim.Native.Nat.{_+_, _-_, _≤_}
 use mathlib.Core.Path.{_≡_, refl, subst}
@@ -22,12 +22,6 @@ loop-holds c = (omega arith, joins-none (c .before .args .n) (c .before .args .s
 join-requires : tie.Need-join-requires Inv-loop μ-loop
 join-requires c κs = (joining-on (c .before .before .before .before .args .n) (c .before .before .before .before .args .size) (c .before .before .before .before .args .carry) (contact (c .before .before .before .before .args .u) (c .before .before .before .before .args .v) (c .before .before .before .before .args .t)) 0 (c .before .before .loop .x) _ _ (c .before .before .before .before .pre) (c .before .before .loop .inv .1), omega arith)
 
-add-x : tie.Need-add-x Inv-loop μ-loop
-add-x c = search needs
-
-loop-less : tie.Need-loop-less Inv-loop μ-loop
-loop-less c = search needs
-
 loop-again : tie.Need-loop-again Inv-loop μ-loop
 loop-again c = (omega arith, joins-then (c .before .before .before .before .before .before .before .args .n) (c .before .before .before .before .before .before .before .args .size) (c .before .before .before .before .before .before .before .args .carry) (contact (c .before .before .before .before .before .before .before .args .u) (c .before .before .before .before .before .before .before .args .v) (c .before .before .before .before .before .before .before .args .t)) 0 (c .before .before .before .before .before .loop .x) (c .before .before .before .before .before .loop .x + 1) _ _ _ (c .before .before .before .before .before .loop .inv .1) (c .before .before .join .ensures), omega arith)
 
@@ -39,14 +33,4 @@ returns c = subst (λ i. Joins (c .before .before .before .args .n) (c .before .
 
 pub join-all-spec : {M : Type 1} → statement M
 join-all-spec =
-    tie.close
-    (tie.spec
-    Inv-loop
-    μ-loop
-    loop-holds
-    join-requires
-    add-x
-    loop-less
-    loop-again
-    same-length
-    returns)
+    tie.close (tie.spec Inv-loop μ-loop loop-holds join-requires (λ c. search needs) (λ c. search needs) loop-again same-length returns)

@@ -1,5 +1,5 @@
 -- `words_in::mark_words` meets its contract. The loop's invariant: the contacts of the words passed are marked and counted.
--- Assumes nothing.
+--
 use borrow.Author.Needs.{needs}
 use mathlib.Core.Path.{_≡_, refl, ap, _∙_, subst}
 use mathlib.Core.List.{List, [], map}
@@ -22,23 +22,11 @@ abbrev μ-loop : tie.MeasureT-loop
 loop-holds : tie.Need-loop-holds Inv-loop μ-loop
 loop-holds c = (refl, omega arith, λ δ f. f, unfold different in refl, refl)
 
-mul-mark-word : tie.Need-mul-mark-word Inv-loop μ-loop
-mul-mark-word c = search needs
-
-shared-slice-read-mark-word : tie.Need-shared-slice-read-mark-word Inv-loop μ-loop
-shared-slice-read-mark-word c = search needs
-
 mark-word-requires : tie.Need-mark-word-requires Inv-loop μ-loop
 mark-word-requires c κs = ((c .before .before .before .before .before .before .before .pre .0 .0, _, c .before .before .before .before .loop .inv .2 (c .before .before .before .before .before .before .before .pre .0 .0) (c .before .before .before .before .before .before .before .pre .0 .1)), c .before .before .before .before .before .before .before .pre .1 .0 _ (word-member (c .before .before .before .before .before .before .before .args .words .now) (c .before .before .before .before .loop .i) (omega arith)))
 
 add-count : tie.Need-add-count Inv-loop μ-loop
 add-count c = let s = words-counted (c .before .before .before .before .before .before .before .before .before .before .args .words .now) (c .before .before .before .before .before .before .before .loop .i) (omega arith) _ _ (c .before .before .before .before .before .before .before .loop .inv .3) (c .before .before .mark-word .ensures (c .before .before .before .before .before .before .before .before .before .before .pre .0 .0) _ (c .before .before .before .before .before .before .before .loop .inv .2 (c .before .before .before .before .before .before .before .before .before .before .pre .0 .0) (c .before .before .before .before .before .before .before .before .before .before .pre .0 .1)) .1) in let b = count-small (c .before .before .before .before .before .before .before .before .before .before .args .words .now) (c .before .before .before .before .before .before .before .loop .i + 1) (omega arith) (c .before .before .before .before .before .before .before .before .before .before .pre .1 .1) _ s in omega arith
-
-add-i : tie.Need-add-i Inv-loop μ-loop
-add-i c = search needs
-
-loop-less : tie.Need-loop-less Inv-loop μ-loop
-loop-less c = search needs
 
 loop-again : tie.Need-loop-again Inv-loop μ-loop
 loop-again c = (c .before .before .before .before .before .before .before .loop .inv .0, omega arith, λ δ f. words-filled (c .before .before .before .before .before .before .before .before .before .before .args .words .now) (c .before .before .before .before .before .before .before .loop .i) (omega arith) (c .before .before .mark-word .ensures δ _ (c .before .before .before .before .before .before .before .loop .inv .2 δ f) .0), words-counted (c .before .before .before .before .before .before .before .before .before .before .args .words .now) (c .before .before .before .before .before .before .before .loop .i) (omega arith) _ _ (c .before .before .before .before .before .before .before .loop .inv .3) (c .before .before .mark-word .ensures (c .before .before .before .before .before .before .before .before .before .before .pre .0 .0) _ (c .before .before .before .before .before .before .before .loop .inv .2 (c .before .before .before .before .before .before .before .before .before .before .pre .0 .0) (c .before .before .before .before .before .before .before .before .before .before .pre .0 .1)) .1), omega arith)
@@ -53,15 +41,5 @@ pub mark-words-spec : {M : Type 1} → statement M
 mark-words-spec =
     tie.close
     (tie.spec
-    Inv-loop
-    μ-loop
-    loop-holds
-    mul-mark-word
-    shared-slice-read-mark-word
-    mark-word-requires
-    add-count
-    add-i
-    loop-less
-    loop-again
-    same-length
-    returns)
+    Inv-loop μ-loop loop-holds (λ c. search needs) (λ c. search needs) mark-word-requires add-count (λ c. search needs) (λ c. search needs) loop-again
+    same-length returns)

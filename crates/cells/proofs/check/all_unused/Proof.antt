@@ -1,5 +1,5 @@
 -- `cells::check::all_unused` meets its contract. The loop's invariant: the bits joined so far are zero and the rest is unused exactly when
--- every word is unused. The measure is what is left of the length. Assumes nothing.
+-- every word is unused. The measure is what is left of the length.
 use native.Mathlib.Omega.{arith}
 use borrow.Author.Needs.{needs}
 use Prim.Native.Nat.{_-_, _≤_}
@@ -24,25 +24,10 @@ abbrev μ-loop : tie.MeasureT-loop
 loop-holds : tie.Need-loop-holds Inv-loop μ-loop
 loop-holds c = (omega arith, rw unusedWord-is refl)
 
-mul-joined : tie.Need-mul-joined Inv-loop μ-loop
-mul-joined c = omega arith
-
-shared-slice-read-joined : tie.Need-shared-slice-read-joined Inv-loop μ-loop
-shared-slice-read-joined c = omega arith
-
-add-i : tie.Need-add-i Inv-loop μ-loop
-add-i c = omega arith
-
-loop-less : tie.Need-loop-less Inv-loop μ-loop
-loop-less c = omega arith
-
 loop-again : tie.Need-loop-again Inv-loop μ-loop
 loop-again c =
     let l = c .before .before in
     (omega arith, unused-turn (l .before .before .args .rest .now) (l .loop .i) (l .loop .joined) (l .loop .inv .1) _ (omega arith) (omega arith))
-
-is-unused-requires : tie.Need-is-unused-requires Inv-loop μ-loop
-is-unused-requires c κs = search needs
 
 returns : tie.Need-returns Inv-loop μ-loop
 returns c =
@@ -54,13 +39,4 @@ pub all-unused-spec : {M : Type 1} → statement M
 all-unused-spec =
     tie.close
     (tie.spec
-    Inv-loop
-    μ-loop
-    loop-holds
-    mul-joined
-    shared-slice-read-joined
-    add-i
-    loop-less
-    loop-again
-    is-unused-requires
-    returns)
+    Inv-loop μ-loop loop-holds (λ c. omega arith) (λ c. omega arith) (λ c. omega arith) (λ c. omega arith) loop-again (λ c κs. search needs) returns)

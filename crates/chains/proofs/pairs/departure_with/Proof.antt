@@ -1,4 +1,4 @@
--- `pairs::departure_with` meets its contract: only the latest departure with arrival at most b can have arrival b. Assumes nothing.
+-- `pairs::departure_with` meets its contract: only the latest departure with arrival at most b can have arrival b.
 use Rattle.rules.specs.Layout.{cellsOf}
 use Rattle.chains.proofs.Lending.{cell-rises, with-late, with-apart, with-here}
 use Rattle.chains.proofs.pairs.departure_with.Statement.{statement}

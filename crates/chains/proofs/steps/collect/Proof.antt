@@ -1,5 +1,5 @@
 -- `steps::collect` meets its contract. The loop's invariant: the words kept are those of the contacts so far, and with the chain that is
--- left they are the whole. The measure is how many contacts may follow. Assumes nothing.
+-- left they are the whole. The measure is how many contacts may follow.
 use mathlib.Core.Path.{refl, _∙_, subst}
 use Prim.Native.Nat.{ℕ, _+_, _-_, _<_}
 use native.Mathlib.Omega.{arith}
@@ -21,12 +21,6 @@ abbrev μ-loop : tie.MeasureT-loop
 shared-slice-read-animals-of : tie.Need-shared-slice-read-animals-of Inv-loop μ-loop
 shared-slice-read-animals-of c = let s = c .before .before in omega (arith, opens-length (s .args .table .now) (s .pre .0 .opens))
 
-animals-of-requires : tie.Need-animals-of-requires Inv-loop μ-loop
-animals-of-requires c κs = search needs
-
-cast-n : tie.Need-cast-n Inv-loop μ-loop
-cast-n c = omega arith
-
 loop-holds : tie.Need-loop-holds Inv-loop μ-loop
 loop-holds c =
     let s = c .before .before .before in
@@ -41,9 +35,6 @@ lowest-requires c κs =
     let l = c .before in
     let s = l .before .before .before .before in
     (s .pre .0, (l .loop .inv .at-animal, s .pre .1 .1, l .loop .inv .to-last))
-
-none-requires : tie.Need-none-requires Inv-loop μ-loop
-none-requires c κs = search needs
 
 returns : tie.Need-returns Inv-loop μ-loop
 returns c =
@@ -69,15 +60,6 @@ contact-word-requires c κs =
     let w = l .loop .inv in
     (omega (arith, z .n-high, w .at-animal), omega (arith, z .n-high, next-animal c), w .from-one, w .to-last)
 
-mul-kept : tie.Need-mul-kept Inv-loop μ-loop
-mul-kept c = omega arith
-
-array-write-kept : tie.Need-array-write-kept Inv-loop μ-loop
-array-write-kept c = omega arith
-
-add-k : tie.Need-add-k Inv-loop μ-loop
-add-k c = omega arith
-
 returns-2 : tie.Need-returns-2 Inv-loop μ-loop
 returns-2 c =
     let v = c .before .before in
@@ -92,9 +74,6 @@ returns-2 c =
       (subst (λ (m : ℕ). l .loop .k + 1 < m) e t, length-set (l .loop .kept) (l .loop .k) _ ∙ w .long),
     )
 
-loop-less : tie.Need-loop-less Inv-loop μ-loop
-loop-less c = omega arith
-
 loop-again : tie.Need-loop-again Inv-loop μ-loop
 loop-again c =
     let v = c .before .before in
@@ -103,9 +82,6 @@ loop-again c =
     let l = f .before .before in
     let s = l .before .before .before .before in
     walk-on (l .loop .inv) (l .before .animals-of .ensures) (s .pre .0) (s .pre .1 .1) (f .before .loop-test .taken) _ _ _ (f .lowest .ensures) (h .if1 .left) _ (v .contact-word .ensures) (c .if2 .left)
-
-none-requires-2 : tie.Need-none-requires-2 Inv-loop μ-loop
-none-requires-2 c κs = search needs
 
 returns-3 : tie.Need-returns-3 Inv-loop μ-loop
 returns-3 c =
@@ -118,22 +94,6 @@ pub collect-spec : {M : Type 1} → statement M
 collect-spec =
     tie.close
     (tie.spec
-    Inv-loop
-    μ-loop
-    shared-slice-read-animals-of
-    animals-of-requires
-    cast-n
-    loop-holds
-    add-loop
-    lowest-requires
-    none-requires
-    returns
-    contact-word-requires
-    mul-kept
-    array-write-kept
-    add-k
-    returns-2
-    loop-less
-    loop-again
-    none-requires-2
-    returns-3)
+    Inv-loop μ-loop shared-slice-read-animals-of (λ c κs. search needs) (λ c. omega arith) loop-holds add-loop lowest-requires (λ c κs. search needs)
+    returns contact-word-requires (λ c. omega arith) (λ c. omega arith) (λ c. omega arith) returns-2 (λ c. omega arith) loop-again
+    (λ c κs. search needs) returns-3)

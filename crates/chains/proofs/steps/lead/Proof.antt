@@ -1,4 +1,4 @@
--- `steps::lead` meets its contract: each return is a case of where the contact leads. Assumes nothing.
+-- `steps::lead` meets its contract: each return is a case of where the contact leads.
 use mathlib.Core.Path.{ap}
 use Prim.Native.Nat.{ℕ, _+_}
 use native.Mathlib.Omega.{arith}
@@ -10,12 +10,6 @@ use Rattle.chains.proofs.steps.lead.Tie as tie
 
 shared-slice-read-carry-of : tie.Need-shared-slice-read-carry-of
 shared-slice-read-carry-of c = let s = c .before .before in omega (arith, opens-length (s .args .table .now) (s .pre .0 .opens))
-
-carry-of-requires : tie.Need-carry-of-requires
-carry-of-requires c κs = search needs
-
-add-a : tie.Need-add-a
-add-a c = search needs
 
 stands-requires : tie.Need-stands-requires
 stands-requires c κs = let s = c .before .before .before in (s .pre .0, (s .pre .1 .0, s .pre .1 .1))
@@ -52,11 +46,4 @@ pub lead-spec : {M : Type 1} → statement M
 lead-spec =
     tie.close
     (tie.spec
-    shared-slice-read-carry-of
-    carry-of-requires
-    add-a
-    stands-requires
-    returns
-    returns-2
-    departure-with-requires
-    returns-3)
+    shared-slice-read-carry-of (λ c κs. search needs) (λ c. search needs) stands-requires returns returns-2 departure-with-requires returns-3)

@@ -1,5 +1,5 @@
 -- `steps::lowest` meets its contract. The loop's invariant: no contact leads to an animal passed. The measure is how many animals are
--- left. Assumes nothing.
+-- left.
 use mathlib.Core.Path.{_≡_, ap, _∙_, subst}
 use Prim.Native.Nat.{ℕ, _-_, _≤_, _<_}
 use native.Mathlib.Omega.{arith}
@@ -19,9 +19,6 @@ abbrev μ-loop : tie.MeasureT-loop
 shared-slice-read-animals-of : tie.Need-shared-slice-read-animals-of Inv-loop μ-loop
 shared-slice-read-animals-of c = let s = c .before .before in omega (arith, opens-length (s .args .table .now) (s .pre .0 .opens))
 
-animals-of-requires : tie.Need-animals-of-requires Inv-loop μ-loop
-animals-of-requires c κs = search needs
-
 loop-holds : tie.Need-loop-holds Inv-loop μ-loop
 loop-holds c = (omega arith, none-yet _)
 
@@ -38,12 +35,6 @@ returns c =
     let a = l .before .before .before .before .args in
     found-here (leads (a .table .now) (a .goal) (a .b) (a .x) (a .d)) (l .loop .z) _ _ (f .before .loop-test .taken) (l .loop .inv .1) (f .lead .ensures) (c .if1 .taken)
     ∙ ap (lowest (leads (a .table .now) (a .goal) (a .b) (a .x) (a .d))) (l .before .animals-of .ensures)
-
-add-z : tie.Need-add-z Inv-loop μ-loop
-add-z c = omega arith
-
-loop-less : tie.Need-loop-less Inv-loop μ-loop
-loop-less c = omega arith
 
 loop-again : tie.Need-loop-again Inv-loop μ-loop
 loop-again c =
@@ -62,14 +53,5 @@ pub lowest-spec : {M : Type 1} → statement M
 lowest-spec =
     tie.close
     (tie.spec
-    Inv-loop
-    μ-loop
-    shared-slice-read-animals-of
-    animals-of-requires
-    loop-holds
-    lead-requires
-    returns
-    add-z
-    loop-less
-    loop-again
-    returns-2)
+    Inv-loop μ-loop shared-slice-read-animals-of (λ c κs. search needs) loop-holds lead-requires returns (λ c. omega arith) (λ c. omega arith)
+    loop-again returns-2)

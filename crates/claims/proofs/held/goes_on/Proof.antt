@@ -1,4 +1,4 @@
--- `held::goes_on` meets its contract: each return is a case of the test. Assumes nothing.
+-- `held::goes_on` meets its contract: each return is a case of the test.
 use native.Mathlib.Omega.{arith}
 use borrow.Author.Needs.{needs}
 use Rattle.claims.proofs.Words.{goes-elsewhere, goes-early, goes-held}

@@ -1,9 +1,10 @@
--- `held::held_word` meets its contract: each return is a case of the test of a word. Assumes nothing.
+-- `held::held_word` meets its contract: each return is a case of the test of a word.
 use mathlib.Core.Path.{sym, subst}
 use Prim.Native.Nat.{ℕ, _≤_, _<_}
 use native.Mathlib.Omega.{arith}
 use borrow.Author.Needs.{needs}
 use Rattle.words.proofs.Packed.{contactOf-bound}
+use Rattle.rules.specs.Limits.{maxTicks}
 use Rattle.rules.proofs.Sound.{opens-length}
 use Rattle.claims.proofs.Words.{held-kind, held-from, held-to, held-is}
 use Rattle.claims.proofs.held.held_word.Statement.{statement}
@@ -11,21 +12,6 @@ use Rattle.claims.proofs.held.held_word.Tie as tie
 
 shared-slice-read-animals-of : tie.Need-shared-slice-read-animals-of
 shared-slice-read-animals-of c = let s = c .before .before in omega (arith, opens-length (s .args .table .now) (s .pre .opens))
-
-animals-of-requires : tie.Need-animals-of-requires
-animals-of-requires c κs = search needs
-
-from-of-requires : tie.Need-from-of-requires
-from-of-requires c κs = search needs
-
-to-of-requires : tie.Need-to-of-requires
-to-of-requires c κs = search needs
-
-tick-of-requires : tie.Need-tick-of-requires
-tick-of-requires c κs = search needs
-
-is-contact-requires : tie.Need-is-contact-requires
-is-contact-requires c κs = search needs
 
 returns : tie.Need-returns
 returns c =
@@ -62,7 +48,7 @@ holds-requires c κs =
       (
         subst (λ (i : ℕ). m .before .before .from-of .result < i) (n .animals-of .ensures) h,
         subst (λ (i : ℕ). m .before .to-of .result < i) (n .animals-of .ensures) k,
-        subst (λ (i : ℕ). i ≤ 1024) (sym (m .tick-of .ensures)) (contactOf-bound (s .args .w) .3),
+        subst (λ (i : ℕ). i ≤ maxTicks) (sym (m .tick-of .ensures)) (contactOf-bound (s .args .w) .3),
       ),
     )
 
@@ -79,14 +65,5 @@ pub held-word-spec : {M : Type 1} → statement M
 held-word-spec =
     tie.close
     (tie.spec
-    shared-slice-read-animals-of
-    animals-of-requires
-    from-of-requires
-    to-of-requires
-    tick-of-requires
-    is-contact-requires
-    returns
-    returns-2
-    returns-3
-    holds-requires
-    returns-4)
+    shared-slice-read-animals-of (λ c κs. search needs) (λ c κs. search needs) (λ c κs. search needs) (λ c κs. search needs) (λ c κs. search needs)
+    returns returns-2 returns-3 holds-requires returns-4)

@@ -1,4 +1,4 @@
--- `held::holds` meets its contract: the cell read is the one from u to v. Assumes nothing.
+-- `held::holds` meets its contract: the cell read is the one from u to v.
 use mathlib.Core.Path.{ap}
 use Prim.Native.Nat.{ℕ, _+_}
 use native.Mathlib.Omega.{arith}
@@ -18,27 +18,6 @@ here c =
 shared-slice-read-w : tie.Need-shared-slice-read-w
 shared-slice-read-w c = let s = c .before .before in omega (arith, opens-length (s .args .table .now) (s .pre .0 .opens))
 
-animals-of-requires : tie.Need-animals-of-requires
-animals-of-requires c κs = search needs
-
-cast-n : tie.Need-cast-n
-cast-n c = search needs
-
-ticks-of-requires : tie.Need-ticks-of-requires
-ticks-of-requires c κs = search needs
-
-cast-size : tie.Need-cast-size
-cast-size c = search needs
-
-add-size : tie.Need-add-size
-add-size c = search needs
-
-carry-of-requires : tie.Need-carry-of-requires
-carry-of-requires c κs = search needs
-
-add-a : tie.Need-add-a
-add-a c = search needs
-
 mul-at : tie.Need-mul-at
 mul-at c = let p = here c in omega arith
 
@@ -54,47 +33,25 @@ add-at-2 c = let p = here c in omega arith
 add-end : tie.Need-add-end
 add-end c = let p = here c in omega arith
 
-mul-holds : tie.Need-mul-holds
-mul-holds c = let p = here c in omega arith
+mul-stands : tie.Need-mul-stands
+mul-stands c = let p = here c in omega arith
 
-sub-holds : tie.Need-sub-holds
-sub-holds c = search needs
+part-stands-end : tie.Need-part-stands-end
+part-stands-end c = let p = here c in omega arith
 
-part-holds-start : tie.Need-part-holds-start
-part-holds-start c = search needs
-
-part-holds-end : tie.Need-part-holds-end
-part-holds-end c = let p = here c in omega arith
-
-holds-requires : tie.Need-holds-requires
-holds-requires c κs = here (c .before) .stored
+stands-requires : tie.Need-stands-requires
+stands-requires c κs = here (c .before) .stored
 
 returns : tie.Need-returns
 returns c =
     let h = c .before .before in
     let a = h .before .before .before .before .before .args in
-    holds-read (a .table .now) (a .u) (a .v) (a .t) _ _ (here h .lent) (ap (λ (i : ℕ). a .t + i) (h .carry-of .ensures)) (c .holds .ensures)
+    holds-read (a .table .now) (a .u) (a .v) (a .t) _ _ (here h .lent) (ap (λ (i : ℕ). a .t + i) (h .carry-of .ensures)) (c .stands .ensures)
 
 pub holds-spec : {M : Type 1} → statement M
 holds-spec =
     tie.close
     (tie.spec
-    shared-slice-read-w
-    animals-of-requires
-    cast-n
-    ticks-of-requires
-    cast-size
-    add-size
-    carry-of-requires
-    add-a
-    mul-at
-    add-at
-    mul-at-2
-    add-at-2
-    add-end
-    mul-holds
-    sub-holds
-    part-holds-start
-    part-holds-end
-    holds-requires
-    returns)
+    shared-slice-read-w (λ c κs. search needs) (λ c. search needs) (λ c κs. search needs) (λ c. search needs) (λ c. search needs)
+    (λ c κs. search needs) (λ c. search needs) mul-at add-at mul-at-2 add-at-2 add-end mul-stands (λ c. search needs) (λ c. search needs)
+    part-stands-end stands-requires returns)

@@ -1,5 +1,5 @@
 -- `places::find` meets its contract. Where no row lies inside [d, a], those that depart at or after d arrive after a, so that the step back may start there.
--- Assumes nothing.
+--
 use Prim.Native.Nat.{ℕ}
 use mathlib.Core.Path.{_≡_, sym, _∙_}
 use mathlib.Core.List.{map}
@@ -8,17 +8,11 @@ use borrow.Author.Needs.{needs}
 use lib.ListN.{length-map}
 use Rattle.journeys.specs.Journey.{interval}
 use Rattle.words.specs.Words.{intervalOf}
-use Rattle.cells.specs.Stored.{departureOf}
+use Rattle.cells.specs.Stored.{departureEnd}
 use Rattle.cells.proofs.Search.{front-length}
 use Rattle.entering.proofs.Splice.{arrive-le}
 use Rattle.entering.proofs.places.find.Statement.{statement}
 use Rattle.entering.proofs.places.find.Tie as tie
-
-first-from-requires : tie.Need-first-from-requires
-first-from-requires c κs = search needs
-
-has-inside-requires : tie.Need-has-inside-requires
-has-inside-requires c κs = search needs
 
 returns : tie.Need-returns
 returns c = (sym (c .if1 .taken) ∙ c .before .has-inside .ensures, λ e. let z : _≡_ {A = ℕ} 0 1 = cc in absurd (omega arith))
@@ -30,21 +24,11 @@ first-arriving-requires c κs =
     let a = s .args .a in
     let rows = s .args .rows .now in
     let le = arrive-le (interval d a) (map intervalOf rows) (intervalOf 0) (s .pre) (sym (c .before .has-inside .ensures) ∙ c .if1 .left) in
-    ((omega arith, omega (arith, front-length departureOf d (map intervalOf rows), length-map rows intervalOf)), s .pre)
-
-first-past-requires : tie.Need-first-past-requires
-first-past-requires c κs = search needs
+    ((omega arith, omega (arith, front-length departureEnd d (map intervalOf rows), length-map rows intervalOf)), s .pre)
 
 returns-2 : tie.Need-returns-2
 returns-2 c = (sym (c .before .before .if1 .left) ∙ c .before .before .before .has-inside .ensures, λ _. (c .before .first-arriving .ensures, c .first-past .ensures))
 
 pub find-spec : {M : Type 1} → statement M
 find-spec =
-    tie.close
-    (tie.spec
-    first-from-requires
-    has-inside-requires
-    returns
-    first-arriving-requires
-    first-past-requires
-    returns-2)
+    tie.close (tie.spec (λ c κs. search needs) (λ c κs. search needs) returns first-arriving-requires (λ c κs. search needs) returns-2)

@@ -1,23 +1,11 @@
 -- `places::first_past` meets its contract: the first row that departs at or after d departs at d, or after it, or is missing.
--- Assumes nothing.
+--
 use mathlib.Core.Path.{sym, _∙_}
 use native.Mathlib.Omega.{arith}
 use borrow.Author.Needs.{needs}
 use Rattle.entering.proofs.Splice.{rows-past-same, rows-past-other, rows-past-none}
 use Rattle.entering.proofs.places.first_past.Statement.{statement}
 use Rattle.entering.proofs.places.first_past.Tie as tie
-
-mul-departure-of : tie.Need-mul-departure-of
-mul-departure-of c = search needs
-
-shared-slice-read-departure-of : tie.Need-shared-slice-read-departure-of
-shared-slice-read-departure-of c = search needs
-
-departure-of-requires : tie.Need-departure-of-requires
-departure-of-requires c κs = search needs
-
-add-result : tie.Need-add-result
-add-result c = search needs
 
 returns : tie.Need-returns
 returns c =
@@ -36,12 +24,4 @@ returns-3 c =
 
 pub first-past-spec : {M : Type 1} → statement M
 first-past-spec =
-    tie.close
-    (tie.spec
-    mul-departure-of
-    shared-slice-read-departure-of
-    departure-of-requires
-    add-result
-    returns
-    returns-2
-    returns-3)
+    tie.close (tie.spec (λ c. search needs) (λ c. search needs) (λ c κs. search needs) (λ c. search needs) returns returns-2 returns-3)

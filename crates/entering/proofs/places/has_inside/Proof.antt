@@ -1,5 +1,5 @@
 -- `places::has_inside` meets its contract: only the first row that departs at or after d can be the first to lie inside.
--- Assumes nothing.
+--
 use mathlib.Core.Path.{sym, ap, _∙_}
 use native.Mathlib.Omega.{arith}
 use borrow.Author.Needs.{needs}

@@ -1,18 +1,9 @@
--- `judged::judge_connected` meets its contract: each return is the verdict of one group of checks. Assumes nothing.
+-- `judged::judge_connected` meets its contract: each return is the verdict of one group of checks.
 use borrow.Author.Needs.{needs}
 use Rattle.rules.specs.Questions.{connectedRefusal}
-use Rattle.verdicts.proofs.Groups.{table-group, group-refused, group-passed, table-long}
+use Rattle.checks.proofs.Groups.{table-group, group-refused, group-passed, table-long}
 use Rattle.questions.proofs.judged.judge_connected.Statement.{statement}
 use Rattle.questions.proofs.judged.judge_connected.Tie as tie
-
-judge-table-requires : tie.Need-judge-table-requires
-judge-table-requires c κs = search needs
-
-enum-known-whole : tie.Need-enum-known-whole
-enum-known-whole c = search needs
-
-enum-told : tie.Need-enum-told
-enum-told c = search needs
 
 judge-window-requires : tie.Need-judge-window-requires
 judge-window-requires c κs = let a = c .before .before .before .before .args in table-long (a .table .now) _ (c .before .before .judge-table .ensures) (c .enum-told .given .1)
@@ -31,11 +22,4 @@ returns-2 c =
 
 pub judge-connected-spec : {M : Type 1} → statement M
 judge-connected-spec =
-    tie.close
-    (tie.spec
-    judge-table-requires
-    enum-known-whole
-    enum-told
-    judge-window-requires
-    returns
-    returns-2)
+    tie.close (tie.spec (λ c κs. search needs) (λ c. search needs) (λ c. search needs) judge-window-requires returns returns-2)

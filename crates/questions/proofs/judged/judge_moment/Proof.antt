@@ -1,28 +1,13 @@
--- `judged::judge_moment` meets its contract: each return is the verdict of one group of checks. Assumes nothing.
+-- `judged::judge_moment` meets its contract: each return is the verdict of one group of checks.
 use mathlib.Core.Option.{none}
 use borrow.Author.Needs.{needs}
 use Rattle.rules.specs.Questions.{ensureMoment, momentRefusal}
-use Rattle.verdicts.proofs.Groups.{table-group, pair-group, group-refused, group-passed, table-long}
+use Rattle.checks.proofs.Groups.{table-group, pair-group, group-refused, group-passed, table-long}
 use Rattle.questions.proofs.judged.judge_moment.Statement.{statement}
 use Rattle.questions.proofs.judged.judge_moment.Tie as tie
 
-judge-table-requires : tie.Need-judge-table-requires
-judge-table-requires c κs = search needs
-
-enum-known-whole : tie.Need-enum-known-whole
-enum-known-whole c = search needs
-
-enum-told : tie.Need-enum-told
-enum-told c = search needs
-
 judge-pair-requires : tie.Need-judge-pair-requires
 judge-pair-requires c κs = let a = c .before .before .before .before .args in table-long (a .table .now) _ (c .before .before .judge-table .ensures) (c .enum-told .given .1)
-
-enum-known-pair : tie.Need-enum-known-pair
-enum-known-pair c = search needs
-
-enum-told-2 : tie.Need-enum-told-2
-enum-told-2 c = search needs
 
 judge-moment-requires : tie.Need-judge-moment-requires
 judge-moment-requires c κs =
@@ -55,13 +40,5 @@ pub judge-moment-spec : {M : Type 1} → statement M
 judge-moment-spec =
     tie.close
     (tie.spec
-    judge-table-requires
-    enum-known-whole
-    enum-told
-    judge-pair-requires
-    enum-known-pair
-    enum-told-2
-    judge-moment-requires
-    returns
-    returns-2
-    returns-3)
+    (λ c κs. search needs) (λ c. search needs) (λ c. search needs) judge-pair-requires (λ c. search needs) (λ c. search needs) judge-moment-requires
+    returns returns-2 returns-3)

@@ -1,22 +1,16 @@
--- `judged::judge_reach_checked` meets its contract: each return is the verdict of one group of checks. Assumes nothing.
+-- `judged::judge_reach_checked` meets its contract: each return is the verdict of one group of checks.
 use mathlib.Core.Option.{none}
 use native.Mathlib.Omega.{arith}
 use borrow.Author.Needs.{needs}
 use Rattle.rules.specs.Questions.{ensureWindow, reachRefusal}
 use Rattle.rules.proofs.Sound.{opens-length}
-use Rattle.verdicts.proofs.Groups.{pair-group, group-refused, group-passed}
+use Rattle.checks.proofs.Groups.{pair-group, group-refused, group-passed}
 use Rattle.questions.proofs.Answered.{behind-table}
 use Rattle.questions.proofs.judged.judge_reach_checked.Statement.{statement}
 use Rattle.questions.proofs.judged.judge_reach_checked.Tie as tie
 
 judge-pair-requires : tie.Need-judge-pair-requires
 judge-pair-requires c κs = let s = c .before in omega (arith, opens-length (s .args .table .now) (s .pre .opens))
-
-enum-known-pair : tie.Need-enum-known-pair
-enum-known-pair c = search needs
-
-enum-told : tie.Need-enum-told
-enum-told c = search needs
 
 judge-window-requires : tie.Need-judge-window-requires
 judge-window-requires c κs = let s = c .before .before .before .before in omega (arith, opens-length (s .args .table .now) (s .pre .opens))
@@ -39,11 +33,4 @@ returns-2 c =
 
 pub judge-reach-checked-spec : {M : Type 1} → statement M
 judge-reach-checked-spec =
-    tie.close
-    (tie.spec
-    judge-pair-requires
-    enum-known-pair
-    enum-told
-    judge-window-requires
-    returns
-    returns-2)
+    tie.close (tie.spec judge-pair-requires (λ c. search needs) (λ c. search needs) judge-window-requires returns returns-2)

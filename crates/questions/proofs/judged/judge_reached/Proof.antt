@@ -1,28 +1,13 @@
--- `judged::judge_reached` meets its contract: each return is the verdict of one group of checks. Assumes nothing.
+-- `judged::judge_reached` meets its contract: each return is the verdict of one group of checks.
 use mathlib.Core.Option.{none}
 use borrow.Author.Needs.{needs}
 use Rattle.rules.specs.Questions.{ensureWindow, reachedRefusal}
-use Rattle.verdicts.proofs.Groups.{table-group, animal-group, group-refused, group-passed, table-long}
+use Rattle.checks.proofs.Groups.{table-group, animal-group, group-refused, group-passed, table-long}
 use Rattle.questions.proofs.judged.judge_reached.Statement.{statement}
 use Rattle.questions.proofs.judged.judge_reached.Tie as tie
 
-judge-table-requires : tie.Need-judge-table-requires
-judge-table-requires c κs = search needs
-
-enum-known-whole : tie.Need-enum-known-whole
-enum-known-whole c = search needs
-
-enum-told : tie.Need-enum-told
-enum-told c = search needs
-
 judge-animal-requires : tie.Need-judge-animal-requires
 judge-animal-requires c κs = let a = c .before .before .before .before .args in table-long (a .table .now) _ (c .before .before .judge-table .ensures) (c .enum-told .given .1)
-
-enum-known-animal : tie.Need-enum-known-animal
-enum-known-animal c = search needs
-
-enum-told-2 : tie.Need-enum-told-2
-enum-told-2 c = search needs
 
 judge-window-requires : tie.Need-judge-window-requires
 judge-window-requires c κs =
@@ -55,13 +40,5 @@ pub judge-reached-spec : {M : Type 1} → statement M
 judge-reached-spec =
     tie.close
     (tie.spec
-    judge-table-requires
-    enum-known-whole
-    enum-told
-    judge-animal-requires
-    enum-known-animal
-    enum-told-2
-    judge-window-requires
-    returns
-    returns-2
-    returns-3)
+    (λ c κs. search needs) (λ c. search needs) (λ c. search needs) judge-animal-requires (λ c. search needs) (λ c. search needs) judge-window-requires
+    returns returns-2 returns-3)

@@ -1,5 +1,5 @@
 -- `sets::collect` meets its contract. The loop's invariant: the set holds the animals reached among those passed. The measure is how many
--- animals are left. Assumes nothing.
+-- animals are left.
 use mathlib.Core.Path.{subst}
 use Prim.Native.Nat.{ℕ, _-_, _≤_, _<_}
 use native.Mathlib.Omega.{arith}
@@ -20,12 +20,6 @@ abbrev μ-loop : tie.MeasureT-loop
 shared-slice-read-animals-of : tie.Need-shared-slice-read-animals-of Inv-loop μ-loop
 shared-slice-read-animals-of c = let s = c .before .before in omega (arith, opens-length (s .args .table .now) (s .pre .0 .opens))
 
-animals-of-requires : tie.Need-animals-of-requires Inv-loop μ-loop
-animals-of-requires c κs = search needs
-
-empty-requires : tie.Need-empty-requires Inv-loop μ-loop
-empty-requires c κs = search needs
-
 loop-holds : tie.Need-loop-holds Inv-loop μ-loop
 loop-holds c = (omega arith, collected-start _ _ _ (c .empty .ensures .0) (c .empty .ensures .1))
 
@@ -36,12 +30,6 @@ with-reached-requires c κs =
     let s = m .before .before .before in
     let h : l .loop .i < m .animals-of .result = omega arith in
     (s .pre .0, ((s .pre .1, subst (λ (k : ℕ). l .loop .i < k) (m .animals-of .ensures) h), l .loop .inv .1))
-
-add-i : tie.Need-add-i Inv-loop μ-loop
-add-i c = omega arith
-
-loop-less : tie.Need-loop-less Inv-loop μ-loop
-loop-less c = omega arith
 
 loop-again : tie.Need-loop-again Inv-loop μ-loop
 loop-again c = (omega arith, c .with-reached .ensures)
@@ -62,14 +50,5 @@ pub collect-spec : {M : Type 1} → statement M
 collect-spec =
     tie.close
     (tie.spec
-    Inv-loop
-    μ-loop
-    shared-slice-read-animals-of
-    animals-of-requires
-    empty-requires
-    loop-holds
-    with-reached-requires
-    add-i
-    loop-less
-    loop-again
-    returns)
+    Inv-loop μ-loop shared-slice-read-animals-of (λ c κs. search needs) (λ c κs. search needs) loop-holds with-reached-requires (λ c. omega arith)
+    (λ c. omega arith) loop-again returns)

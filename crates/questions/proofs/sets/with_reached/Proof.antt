@@ -1,4 +1,4 @@
--- `sets::with_reached` meets its contract: each return is a case of the test of animal i. Assumes nothing.
+-- `sets::with_reached` meets its contract: each return is a case of the test of animal i.
 use mathlib.Core.Path.{_∙_}
 use native.Mathlib.Omega.{arith}
 use borrow.Author.Needs.{needs}

@@ -1,5 +1,5 @@
 -- `walks::connects` meets its contract. The loop's invariant: the animals passed join all others. The measure is how many animals are
--- left. Assumes nothing.
+-- left.
 use Prim.Native.Nat.{_-_}
 use native.Mathlib.Omega.{arith}
 use borrow.Author.Needs.{needs}
@@ -18,9 +18,6 @@ abbrev μ-loop : tie.MeasureT-loop
 shared-slice-read-animals-of : tie.Need-shared-slice-read-animals-of Inv-loop μ-loop
 shared-slice-read-animals-of c = let s = c .before .before in omega (arith, opens-length (s .args .table .now) (s .pre .opens))
 
-animals-of-requires : tie.Need-animals-of-requires Inv-loop μ-loop
-animals-of-requires c κs = search needs
-
 loop-holds : tie.Need-loop-holds Inv-loop μ-loop
 loop-holds c = passed-start _ _
 
@@ -36,12 +33,6 @@ returns c =
     let l = f .before .before in
     let s = l .before .before .before .before in
     all-connected (s .args .table .now) (s .args .first) (s .args .last) _ (l .before .animals-of .ensures) (passed-stop (l .loop .inv) (omega arith) (f .joins-all .ensures) (c .if1 .taken))
-
-add-u : tie.Need-add-u Inv-loop μ-loop
-add-u c = omega arith
-
-loop-less : tie.Need-loop-less Inv-loop μ-loop
-loop-less c = omega arith
 
 loop-again : tie.Need-loop-again Inv-loop μ-loop
 loop-again c =
@@ -59,14 +50,5 @@ pub connects-spec : {M : Type 1} → statement M
 connects-spec =
     tie.close
     (tie.spec
-    Inv-loop
-    μ-loop
-    shared-slice-read-animals-of
-    animals-of-requires
-    loop-holds
-    joins-all-requires
-    returns
-    add-u
-    loop-less
-    loop-again
-    returns-2)
+    Inv-loop μ-loop shared-slice-read-animals-of (λ c κs. search needs) loop-holds joins-all-requires returns (λ c. omega arith) (λ c. omega arith)
+    loop-again returns-2)

@@ -1,4 +1,4 @@
--- `walks::joins` meets its contract: each return is a case of the test. Assumes nothing.
+-- `walks::joins` meets its contract: each return is a case of the test.
 use borrow.Author.Needs.{needs}
 use Rattle.questions.proofs.Passing.{joins-self, joins-other}
 use Rattle.questions.proofs.walks.joins.Statement.{statement}

@@ -1,5 +1,5 @@
 -- `walks::joins_all` meets its contract. The loop's invariant: u joins the animals passed. The measure is how many animals are left.
--- Assumes nothing.
+--
 use mathlib.Core.Path.{subst}
 use Prim.Native.Nat.{ℕ, _-_, _<_}
 use native.Mathlib.Omega.{arith}
@@ -32,12 +32,6 @@ returns c =
     let s = l .before .before in
     all-joined (s .args .table .now) (s .args .first) (s .args .last) (s .args .u) _ (s .pre .1 .1) (passed-stop (l .loop .inv) (omega arith) (f .joins .ensures) (c .if1 .taken))
 
-add-v : tie.Need-add-v Inv-loop μ-loop
-add-v c = omega arith
-
-loop-less : tie.Need-loop-less Inv-loop μ-loop
-loop-less c = omega arith
-
 loop-again : tie.Need-loop-again Inv-loop μ-loop
 loop-again c =
     let f = c .before in
@@ -52,14 +46,4 @@ returns-2 c =
 
 pub joins-all-spec : {M : Type 1} → statement M
 joins-all-spec =
-    tie.close
-    (tie.spec
-    Inv-loop
-    μ-loop
-    loop-holds
-    joins-requires
-    returns
-    add-v
-    loop-less
-    loop-again
-    returns-2)
+    tie.close (tie.spec Inv-loop μ-loop loop-holds joins-requires returns (λ c. omega arith) (λ c. omega arith) loop-again returns-2)

@@ -1,4 +1,4 @@
--- `judged::is_log` meets its contract. Assumes nothing.
+-- `judged::is_log` meets its contract.
 use borrow.Author.Needs.{needs}
 use native.Mathlib.Omega.{arith}
 use Rattle.reading.proofs.Checked.{log-short, log-first}

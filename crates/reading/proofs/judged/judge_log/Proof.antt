@@ -1,4 +1,4 @@
--- `judged::judge_log` meets its contract: each return is the verdict of one group of checks. Assumes nothing.
+-- `judged::judge_log` meets its contract: each return is the verdict of one group of checks.
 use borrow.Author.Needs.{needs}
 use mathlib.Core.Path.{refl, ap₂, _∙_}
 use native.Mathlib.Omega.{arith}
@@ -8,20 +8,11 @@ use Rattle.reading.proofs.Checked.{log-long, read-no-log, read-wrong-le
 use Rattle.reading.proofs.judged.judge_log.Statement.{statement}
 use Rattle.reading.proofs.judged.judge_log.Tie as tie
 
-is-log-requires : tie.Need-is-log-requires
-is-log-requires c κs = search needs
-
 returns : tie.Need-returns
 returns c = read-no-log (c .before .before .before .before .args .log .now) (c .before .before .before .before .args .table .now) _ (c .before .is-log .ensures) (c .if1 .taken)
 
 shared-slice-read-of-word : tie.Need-shared-slice-read-of-word
 shared-slice-read-of-word c = omega (arith, log-long (c .before .before .before .before .before .args .log .now) (passed (c .before .before .is-log .ensures) (c .before .if1 .left)))
-
-of-word-requires : tie.Need-of-word-requires
-of-word-requires c κs = search needs
-
-table-length-requires : tie.Need-table-length-requires
-table-length-requires c κs = search needs
 
 returns-2 : tie.Need-returns-2
 returns-2 c = read-wrong-length (c .before .before .before .before .before .before .before .before .args .log .now) (c .before .before .before .before .before .before .before .before .args .table .now) _ (c .before .before .before .before .before .is-log .ensures) (c .before .before .before .before .if1 .left) _ (c .before .table-length .ensures ∙ ap₂ tableLength (c .before .before .of-word .ensures .0) (c .before .before .of-word .ensures .1)) (c .if2 .taken)
@@ -38,15 +29,6 @@ part-judge-words-start c = omega (arith, log-long (c .before .before .before .be
 part-judge-words-end : tie.Need-part-judge-words-end
 part-judge-words-end c = omega (arith, log-long (c .before .before .before .before .before .before .before .before .args .log .now) (passed (c .before .before .before .before .before .is-log .ensures) (c .before .before .before .before .if1 .left)))
 
-judge-words-requires : tie.Need-judge-words-requires
-judge-words-requires c κs = search needs
-
-enum-known-each : tie.Need-enum-known-each
-enum-known-each c = search needs
-
-enum-told : tie.Need-enum-told
-enum-told c = search needs
-
 judge-end-requires : tie.Need-judge-end-requires
 judge-end-requires c κs = log-long (c .before .before .before .before .before .before .before .before .before .before .before .before .args .log .now) (passed (c .before .before .before .before .before .before .before .before .before .is-log .ensures) (c .before .before .before .before .before .before .before .before .if1 .left))
 
@@ -60,19 +42,5 @@ pub judge-log-spec : {M : Type 1} → statement M
 judge-log-spec =
     tie.close
     (tie.spec
-    is-log-requires
-    returns
-    shared-slice-read-of-word
-    of-word-requires
-    table-length-requires
-    returns-2
-    sub-end
-    sub-judge-words
-    part-judge-words-start
-    part-judge-words-end
-    judge-words-requires
-    enum-known-each
-    enum-told
-    judge-end-requires
-    returns-3
-    returns-4)
+    (λ c κs. search needs) returns shared-slice-read-of-word (λ c κs. search needs) (λ c κs. search needs) returns-2 sub-end sub-judge-words
+    part-judge-words-start part-judge-words-end (λ c κs. search needs) (λ c. search needs) (λ c. search needs) judge-end-requires returns-3 returns-4)

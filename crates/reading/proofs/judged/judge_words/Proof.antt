@@ -1,4 +1,4 @@
--- `judged::judge_words` meets its contract. The loop's invariant: what is left to judge equals the whole. Assumes nothing.
+-- `judged::judge_words` meets its contract. The loop's invariant: what is left to judge equals the whole.
 use borrow.Author.Needs.{needs}
 use mathlib.Core.Path.{_≡_, refl}
 use mathlib.Core.Option.{none}
@@ -19,35 +19,11 @@ abbrev μ-loop : tie.MeasureT-loop
 loop-holds : tie.Need-loop-holds Inv-loop μ-loop
 loop-holds c = (refl, omega arith, refl)
 
-mul-judge-word : tie.Need-mul-judge-word Inv-loop μ-loop
-mul-judge-word c = search needs
-
-shared-slice-read-judge-word : tie.Need-shared-slice-read-judge-word Inv-loop μ-loop
-shared-slice-read-judge-word c = search needs
-
-judge-word-requires : tie.Need-judge-word-requires Inv-loop μ-loop
-judge-word-requires c κs = search needs
-
-enum-told : tie.Need-enum-told Inv-loop μ-loop
-enum-told c = search needs
-
 returns : tie.Need-returns Inv-loop μ-loop
 returns c = words-no-contact (c .before .before .before .before .before .before .before .args .animals) (c .before .before .before .before .before .before .before .args .ticks) (c .before .before .before .before .before .before .before .args .words .now) (c .before .before .before .before .before .loop .i) (omega arith) _ (c .before .before .judge-word .ensures) (c .before .before .before .before .before .loop .inv .2) (c .enum-told .given .1)
 
-enum-told-2 : tie.Need-enum-told-2 Inv-loop μ-loop
-enum-told-2 c = search needs
-
 returns-2 : tie.Need-returns-2 Inv-loop μ-loop
 returns-2 c = words-not-legal (c .before .before .before .before .before .before .before .args .animals) (c .before .before .before .before .before .before .before .args .ticks) (c .before .before .before .before .before .before .before .args .words .now) (c .before .before .before .before .before .loop .i) (omega arith) _ (c .before .before .judge-word .ensures) (c .before .before .before .before .before .loop .inv .2) (c .enum-told2 .given .1)
-
-enum-told-3 : tie.Need-enum-told-3 Inv-loop μ-loop
-enum-told-3 c = search needs
-
-add-i : tie.Need-add-i Inv-loop μ-loop
-add-i c = search needs
-
-loop-less : tie.Need-loop-less Inv-loop μ-loop
-loop-less c = search needs
 
 loop-again : tie.Need-loop-again Inv-loop μ-loop
 loop-again c = (c .before .before .before .before .before .loop .inv .0, omega arith, words-next (c .before .before .before .before .before .before .before .args .animals) (c .before .before .before .before .before .before .before .args .ticks) (c .before .before .before .before .before .before .before .args .words .now) (c .before .before .before .before .before .loop .i) (omega arith) _ (c .before .before .judge-word .ensures) (c .before .before .before .before .before .loop .inv .2) (c .enum-told3 .given .1))
@@ -59,18 +35,5 @@ pub judge-words-spec : {M : Type 1} → statement M
 judge-words-spec =
     tie.close
     (tie.spec
-    Inv-loop
-    μ-loop
-    loop-holds
-    mul-judge-word
-    shared-slice-read-judge-word
-    judge-word-requires
-    enum-told
-    returns
-    enum-told-2
-    returns-2
-    enum-told-3
-    add-i
-    loop-less
-    loop-again
-    returns-3)
+    Inv-loop μ-loop loop-holds (λ c. search needs) (λ c. search needs) (λ c κs. search needs) (λ c. search needs) returns (λ c. search needs)
+    returns-2 (λ c. search needs) (λ c. search needs) (λ c. search needs) loop-again returns-3)

@@ -1,4 +1,4 @@
--- `loading::load` meets its contract. Assumes nothing.
+-- `loading::load` meets its contract.
 use borrow.Author.Needs.{needs}
 use mathlib.Core.Path.{refl}
 use native.Mathlib.Omega.{arith}
@@ -11,14 +11,8 @@ use Rattle.reading.proofs.loading.load.Tie as tie
 shared-slice-read-of-word : tie.Need-shared-slice-read-of-word
 shared-slice-read-of-word c = omega (arith, log-long (c .before .before .before .args .log .now) (read-iff (c .before .before .before .args .log .now) (c .before .before .before .args .table .now) .0 (c .before .before .before .pre) .log))
 
-of-word-requires : tie.Need-of-word-requires
-of-word-requires c κs = search needs
-
 write-opened-requires : tie.Need-write-opened-requires
 write-opened-requires c κs = (first-sizes (c .before .before .before .before .before .args .log .now) (c .before .before .before .before .before .args .table .now) (c .before .before .before .before .before .pre) _ _ _ (c .before .of-word .ensures .0) (c .before .of-word .ensures .1) (c .before .of-word .ensures .2), first-length (c .before .before .before .before .before .args .log .now) (c .before .before .before .before .before .args .table .now) (c .before .before .before .before .before .pre) _ _ _ (c .before .of-word .ensures .0) (c .before .of-word .ensures .1) (c .before .of-word .ensures .2))
-
-no-heads-requires : tie.Need-no-heads-requires
-no-heads-requires c κs = search needs
 
 sub-end : tie.Need-sub-end
 sub-end c = omega (arith, log-long (c .before .before .before .before .before .before .before .before .before .args .log .now) (read-iff (c .before .before .before .before .before .before .before .before .before .args .log .now) (c .before .before .before .before .before .before .before .before .before .args .table .now) .0 (c .before .before .before .before .before .before .before .before .before .pre) .log))
@@ -38,9 +32,6 @@ mark-requires c κs = (log-opened (c .before .before .before .before .before .be
 build-requires : tie.Need-build-requires
 build-requires c κs = (_, c .before .before .before .before .mark .ensures .1 .0)
 
-same-length : tie.Need-same-length
-same-length c = search needs
-
 returns : tie.Need-returns
 returns c = (log-counted (c .before .before .before .before .before .before .before .before .before .before .before .before .before .before .before .before .before .before .before .before .args .log .now) (c .before .before .before .before .before .before .before .before .before .before .before .before .before .before .before .before .before .before .before .before .args .table .now) (c .before .before .before .before .before .before .before .before .before .before .before .before .before .before .before .before .before .before .before .before .pre) _ refl _ (c .before .before .before .before .before .before .before .mark .ensures .0), log-loaded (c .before .before .before .before .before .before .before .before .before .before .before .before .before .before .before .before .before .before .before .before .args .log .now) (c .before .before .before .before .before .before .before .before .before .before .before .before .before .before .before .before .before .before .before .before .args .table .now) (c .before .before .before .before .before .before .before .before .before .before .before .before .before .before .before .before .before .before .before .before .pre) _ refl _ (first-words (c .before .before .before .before .before .before .before .before .before .before .before .before .before .before .before .before .before .before .before .before .args .log .now) (c .before .before .before .before .before .before .before .before .before .before .before .before .before .before .before .before .before .before .before .before .args .table .now) (c .before .before .before .before .before .before .before .before .before .before .before .before .before .before .before .before .before .before .before .before .pre) _ _ _ (c .before .before .before .before .before .before .before .before .before .before .before .before .before .before .before .before .of-word .ensures .0) (c .before .before .before .before .before .before .before .before .before .before .before .before .before .before .before .before .of-word .ensures .1) (c .before .before .before .before .before .before .before .before .before .before .before .before .before .before .before .before .of-word .ensures .2) _ (c .before .before .before .before .before .before .before .before .before .before .before .before .before .before .write-opened .ensures)) (c .before .before .before .before .before .before .before .mark .last .1 .0) _ (c .before .before .before .before .before .before .before .mark .ensures .1 .1) (c .before .before .build .ensures _ (c .before .before .before .before .before .before .before .mark .ensures .1 .0)))
 
@@ -48,15 +39,5 @@ pub load-spec : {M : Type 1} → statement M
 load-spec =
     tie.close
     (tie.spec
-    shared-slice-read-of-word
-    of-word-requires
-    write-opened-requires
-    no-heads-requires
-    sub-end
-    sub-mark
-    part-mark-start
-    part-mark-end
-    mark-requires
-    build-requires
-    same-length
-    returns)
+    shared-slice-read-of-word (λ c κs. search needs) write-opened-requires (λ c κs. search needs) sub-end sub-mark part-mark-start part-mark-end
+    mark-requires build-requires (λ c. search needs) returns)

@@ -1,11 +1,11 @@
--- `input::put_words` meets its contract. The loop's invariant: the words passed are written. Assumes nothing.
+-- `input::put_words` meets its contract. The loop's invariant: the words passed are written.
 use borrow.Author.Needs.{needs}
 use mathlib.Core.Path.{_≡_, refl}
 use Prim.Native.Nat.{_-_, _*_, _/_, _≤_}
 use lib.ListN.{length, drop}
 use native.Mathlib.Omega.{arith}
 use Rattle.rules.specs.Sheet.{wordsOf}
-use Rattle.lines.proofs.Writing.{Writing}
+use Rattle.table_text.proofs.Writing.{Writing}
 use Rattle.sheet_text.proofs.Words.{words-start, words-room, words-turn, words-done}
 use Rattle.sheet_text.proofs.input.put_words.Statement.{statement}
 use Rattle.sheet_text.proofs.input.put_words.Tie as tie
@@ -19,23 +19,8 @@ abbrev μ-loop : tie.MeasureT-loop
 loop-holds : tie.Need-loop-holds Inv-loop μ-loop
 loop-holds c = (refl, omega arith, words-start _ _ (c .before .before .pre .1))
 
-mul-word-at : tie.Need-mul-word-at Inv-loop μ-loop
-mul-word-at c = search needs
-
-word-at-requires : tie.Need-word-at-requires Inv-loop μ-loop
-word-at-requires c κs = omega arith
-
-mul-out : tie.Need-mul-out Inv-loop μ-loop
-mul-out c = search needs
-
 slice-write-out : tie.Need-slice-write-out Inv-loop μ-loop
 slice-write-out c = words-room _ _ _ _ (c .before .before .loop .inv .2) (omega arith)
-
-add-i : tie.Need-add-i Inv-loop μ-loop
-add-i c = search needs
-
-loop-less : tie.Need-loop-less Inv-loop μ-loop
-loop-less c = search needs
 
 loop-again : tie.Need-loop-again Inv-loop μ-loop
 loop-again c = (c .before .before .loop .inv .0, omega arith, words-turn _ _ _ _ (c .before .before .loop .inv .2) (omega arith) _ (c .word-at .ensures))
@@ -50,15 +35,5 @@ pub put-words-spec : {M : Type 1} → statement M
 put-words-spec =
     tie.close
     (tie.spec
-    Inv-loop
-    μ-loop
-    loop-holds
-    mul-word-at
-    word-at-requires
-    mul-out
-    slice-write-out
-    add-i
-    loop-less
-    loop-again
-    same-length
-    returns)
+    Inv-loop μ-loop loop-holds (λ c. search needs) (λ c κs. omega arith) (λ c. search needs) slice-write-out (λ c. search needs) (λ c. search needs)
+    loop-again same-length returns)

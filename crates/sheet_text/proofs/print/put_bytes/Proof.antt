@@ -1,10 +1,10 @@
--- `print::put_bytes` meets its contract. The loop's invariant: the bytes passed are written. Assumes nothing.
+-- `print::put_bytes` meets its contract. The loop's invariant: the bytes passed are written.
 use borrow.Author.Needs.{needs}
 use mathlib.Core.Path.{_≡_, refl}
 use Prim.Native.Nat.{_-_, _≤_}
 use lib.ListN.{length, drop}
 use native.Mathlib.Omega.{arith}
-use Rattle.lines.proofs.Writing.{Writing, start}
+use Rattle.table_text.proofs.Writing.{Writing, start}
 use Rattle.sheet_text.proofs.Words.{bytes-turn, bytes-room, bytes-done}
 use Rattle.sheet_text.proofs.print.put_bytes.Statement.{statement}
 use Rattle.sheet_text.proofs.print.put_bytes.Tie as tie
@@ -18,17 +18,8 @@ abbrev μ-loop : tie.MeasureT-loop
 loop-holds : tie.Need-loop-holds Inv-loop μ-loop
 loop-holds c = (refl, omega arith, start _ _ _ refl (c .pre))
 
-shared-slice-read-out : tie.Need-shared-slice-read-out Inv-loop μ-loop
-shared-slice-read-out c = search needs
-
 slice-write-out : tie.Need-slice-write-out Inv-loop μ-loop
 slice-write-out c = bytes-room _ _ _ _ (c .before .before .loop .inv .2) (omega arith)
-
-add-i : tie.Need-add-i Inv-loop μ-loop
-add-i c = search needs
-
-loop-less : tie.Need-loop-less Inv-loop μ-loop
-loop-less c = search needs
 
 loop-again : tie.Need-loop-again Inv-loop μ-loop
 loop-again c = (c .before .before .loop .inv .0, omega arith, bytes-turn _ _ _ _ (c .before .before .loop .inv .2) (omega arith))
@@ -43,13 +34,4 @@ pub put-bytes-spec : {M : Type 1} → statement M
 put-bytes-spec =
     tie.close
     (tie.spec
-    Inv-loop
-    μ-loop
-    loop-holds
-    shared-slice-read-out
-    slice-write-out
-    add-i
-    loop-less
-    loop-again
-    same-length
-    returns)
+    Inv-loop μ-loop loop-holds (λ c. search needs) slice-write-out (λ c. search needs) (λ c. search needs) loop-again same-length returns)

@@ -1,46 +1,22 @@
--- `print::put_read` meets its contract: each answer of reading is a case of the text. Assumes nothing.
+-- `print::put_read` meets its contract: each answer of reading is a case of the text.
 use borrow.Author.Needs.{needs}
 use mathlib.Core.Path.{sym, ap, _∙_}
 use native.Mathlib.Omega.{arith}
 use lib.ListN.{length}
 use Rattle.rules.specs.Sheet.{refusedText}
-use Rattle.lines.specs.Onto.{onto}
+use Rattle.table_text.specs.Onto.{onto}
 use Rattle.sheet_text.proofs.Printed.{text-refused, text-read, read-table, put-as}
 use Rattle.sheet_text.proofs.print.put_read.Statement.{statement}
 use Rattle.sheet_text.proofs.print.put_read.Tie as tie
 
-read-log-requires : tie.Need-read-log-requires
-read-log-requires c κs = search needs
-
-enum-known-answer : tie.Need-enum-known-answer
-enum-known-answer c = search needs
-
-number-of-requires : tie.Need-number-of-requires
-number-of-requires c κs = search needs
-
 put-refused-requires : tie.Need-put-refused-requires
 put-refused-requires c κs = omega (arith, c .before .before .before .before .before .before .before .before .before .before .before .before .pre .1, ap length ((text-refused (c .before .before .before .before .before .before .before .before .before .before .before .before .args .log .now) (c .before .before .before .before .before .before .before .before .before .before .before .before .args .table .now) (c .before .before .before .before .before .before .before .before .before .before .before .before .pre .0) _ (c .before .before .before .before .before .before .before .read-log .ensures .0) _ (c .before .before .before .answer .given .1)) ∙ ap refusedText (sym (c .before .number-of .ensures))))
-
-enum-known-answer-2 : tie.Need-enum-known-answer-2
-enum-known-answer-2 c = search needs
 
 put-table-requires : tie.Need-put-table-requires
 put-table-requires c κs = let p = read-table (c .before .before .before .before .before .before .before .before .before .before .before .before .args .log .now) (c .before .before .before .before .before .before .before .before .before .before .before .before .args .table .now) (c .before .before .before .before .before .before .before .before .before .before .before .before .pre .0) _ (c .before .before .before .before .before .before .before .read-log .ensures .0) _ (c .before .before .before .answer2 .given .1) _ (c .before .before .before .before .before .before .before .read-log .ensures .1) in (p .0, (p .1, omega (arith, c .before .before .before .before .before .before .before .before .before .before .before .before .pre .1, ap length (text-read (c .before .before .before .before .before .before .before .before .before .before .before .before .args .log .now) (c .before .before .before .before .before .before .before .before .before .before .before .before .args .table .now) (c .before .before .before .before .before .before .before .before .before .before .before .before .pre .0) _ (c .before .before .before .before .before .before .before .read-log .ensures .0) _ (c .before .before .before .answer2 .given .1) _ (c .before .before .before .before .before .before .before .read-log .ensures .1)))))
 
-same-length : tie.Need-same-length
-same-length c = search needs
-
-same-length-2 : tie.Need-same-length-2
-same-length-2 c = search needs
-
 returns : tie.Need-returns
 returns c = put-as _ _ _ _ _ ((text-refused (c .before .before .before .before .before .before .before .before .before .before .before .before .before .before .before .args .log .now) (c .before .before .before .before .before .before .before .before .before .before .before .before .before .before .before .args .table .now) (c .before .before .before .before .before .before .before .before .before .before .before .before .before .before .before .pre .0) _ (c .before .before .before .before .before .before .before .before .before .before .read-log .ensures .0) _ (c .before .before .before .before .before .before .answer .given .1)) ∙ ap refusedText (sym (c .before .before .before .before .number-of .ensures))) (c .before .before .put-refused .ensures .0) (c .before .before .put-refused .ensures .1)
-
-same-length-3 : tie.Need-same-length-3
-same-length-3 c = search needs
-
-same-length-4 : tie.Need-same-length-4
-same-length-4 c = search needs
 
 returns-2 : tie.Need-returns-2
 returns-2 c = put-as _ _ _ _ _ (text-read (c .before .before .before .before .before .before .before .before .before .before .before .before .before .before .before .args .log .now) (c .before .before .before .before .before .before .before .before .before .before .before .before .before .before .before .args .table .now) (c .before .before .before .before .before .before .before .before .before .before .before .before .before .before .before .pre .0) _ (c .before .before .before .before .before .before .before .before .before .before .read-log .ensures .0) _ (c .before .before .before .before .before .before .answer2 .given .1) _ (c .before .before .before .before .before .before .before .before .before .before .read-log .ensures .1)) (c .before .before .put-table .ensures .0) (c .before .before .put-table .ensures .1)
@@ -49,15 +25,5 @@ pub put-read-spec : {M : Type 1} → statement M
 put-read-spec =
     tie.close
     (tie.spec
-    read-log-requires
-    enum-known-answer
-    number-of-requires
-    put-refused-requires
-    enum-known-answer-2
-    put-table-requires
-    same-length
-    same-length-2
-    returns
-    same-length-3
-    same-length-4
-    returns-2)
+    (λ c κs. search needs) (λ c. search needs) (λ c κs. search needs) put-refused-requires (λ c. search needs) put-table-requires (λ c. search needs)
+    (λ c. search needs) returns (λ c. search needs) (λ c. search needs) returns-2)

@@ -1,4 +1,4 @@
--- `print::table_size` meets its contract. Assumes nothing.
+-- `print::table_size` meets its contract.
 use borrow.Author.Needs.{needs}
 use mathlib.Core.Path.{ap₂, _∙_}
 use native.Mathlib.Omega.{arith}
@@ -10,32 +10,12 @@ use Rattle.sheet_text.proofs.print.table_size.Tie as tie
 returns : tie.Need-returns
 returns c = (omega arith, size-short (c .before .before .args .log .now) (c .if1 .taken) _)
 
-shared-slice-read-w : tie.Need-shared-slice-read-w
-shared-slice-read-w c = search needs
-
-is-opening-requires : tie.Need-is-opening-requires
-is-opening-requires c κs = search needs
-
 returns-2 : tie.Need-returns-2
 returns-2 c = (omega arith, size-other (c .before .before .before .before .before .args .log .now) _ (c .before .is-opening .ensures) (c .if2 .taken) _)
-
-of-word-requires : tie.Need-of-word-requires
-of-word-requires c κs = search needs
-
-table-length-requires : tie.Need-table-length-requires
-table-length-requires c κs = search needs
 
 returns-3 : tie.Need-returns-3
 returns-3 c = (omega (arith, size-small (c .before .before .before .before .before .before .before .args .log .now) _ (c .before .before .before .is-opening .ensures) (c .before .before .if2 .left) (c .before .before .before .before .before .before .before .pre), (c .table-length .ensures ∙ ap₂ tableLength (c .before .of-word .ensures .0) (c .before .of-word .ensures .1))), λ q. (c .table-length .ensures ∙ ap₂ tableLength (c .before .of-word .ensures .0) (c .before .of-word .ensures .1)))
 
 pub table-size-spec : {M : Type 1} → statement M
 table-size-spec =
-    tie.close
-    (tie.spec
-    returns
-    shared-slice-read-w
-    is-opening-requires
-    returns-2
-    of-word-requires
-    table-length-requires
-    returns-3)
+    tie.close (tie.spec returns (λ c. search needs) (λ c κs. search needs) returns-2 (λ c κs. search needs) (λ c κs. search needs) returns-3)

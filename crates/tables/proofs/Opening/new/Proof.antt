@@ -1,16 +1,13 @@
--- `Opening::new` meets its contract: each of its returns is a case of the constructor. Assumes nothing.
+-- `Opening::new` meets its contract: each of its returns is a case of the constructor.
 use borrow.Author.Needs.{needs}
 use mathlib.Core.Path.{_≡_}
 use mathlib.Core.Bool.{true}
 use Rattle.rules.specs.Folds.{within}
-use Rattle.rules.specs.Opening.{maxAnimals, maxTicks}
+use Rattle.rules.specs.Limits.{maxAnimals, maxTicks}
 use Rattle.cells.proofs.Checks.{stopped, passed}
 use Rattle.tables.proofs.Openings.{animals-beyond, ticks-beyond, carry-beyond, all-within}
 use Rattle.tables.proofs.Opening.new.Statement.{statement}
 use Rattle.tables.proofs.Opening.new.Tie as tie
-
-is-within-requires : tie.Need-is-within-requires
-is-within-requires c κs = search needs
 
 returns : tie.Need-returns
 returns c = animals-beyond _ _ _ (stopped (c .before .is-within .ensures) (c .if1 .taken))
@@ -19,18 +16,12 @@ returns c = animals-beyond _ _ _ (stopped (c .before .is-within .ensures) (c .if
 animals-within : (c : tie.Else1) → within 1 (c .before .before .args .animals) maxAnimals ≡ true
 animals-within c = passed (c .before .is-within .ensures) (c .if1 .left)
 
-is-within-requires-2 : tie.Need-is-within-requires-2
-is-within-requires-2 c κs = search needs
-
 returns-2 : tie.Need-returns-2
 returns-2 c = ticks-beyond _ _ _ (animals-within (c .before .before)) (stopped (c .before .is-within2 .ensures) (c .if2 .taken))
 
 -- The number of ticks is within its limits.
 ticks-within : (c : tie.Else2) → within 1 (c .before .before .before .before .args .ticks) maxTicks ≡ true
 ticks-within c = passed (c .before .is-within2 .ensures) (c .if2 .left)
-
-is-within-requires-3 : tie.Need-is-within-requires-3
-is-within-requires-3 c κs = search needs
 
 returns-3 : tie.Need-returns-3
 returns-3 c =
@@ -44,12 +35,4 @@ returns-4 c =
 
 pub new-spec : {M : Type 1} → statement M
 new-spec =
-    tie.close
-    (tie.spec
-    is-within-requires
-    returns
-    is-within-requires-2
-    returns-2
-    is-within-requires-3
-    returns-3
-    returns-4)
+    tie.close (tie.spec (λ c κs. search needs) returns (λ c κs. search needs) returns-2 (λ c κs. search needs) returns-3 returns-4)

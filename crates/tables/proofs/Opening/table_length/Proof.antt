@@ -1,4 +1,4 @@
--- `Opening::table_length` meets its contract: the length fits. Assumes nothing.
+-- `Opening::table_length` meets its contract: the length fits.
 use native.Mathlib.Omega.{arith}
 use borrow.Author.Needs.{needs}
 use Rattle.tables.proofs.Openings.{length-bound}

@@ -1,0 +1,9 @@
+-- The verdict of a group of checks: whether a call goes on or is refused.
+use mathlib.Core.Option.{Option, none, some}
+use Rattle.rules.specs.declared.Refusal.{Refusal}
+use Rattle.checks.specs.declared.Verdict.{Verdict}
+use Rattle.checks.specs.declared.Verdict.the-variants.{Passed, Refused}
+
+abbrev pub verdictOf : Option Refusal → Verdict
+verdictOf none = Passed
+verdictOf (some r) = Refused r

@@ -1,0 +1,39 @@
+-- What else holds of the chain that document 01's rule names: its animals, its length, and what reach and the check of a claimed chain
+-- say of it.
+use Prim.Native.Nat.{ℕ, _+_, _≤_}
+use mathlib.Core.Path.{_≡_}
+use mathlib.Core.Logic.{_↔_}
+use mathlib.Core.List.{List, [], _∷_, map, List·Memᴰ}
+use mathlib.Core.Option.{some}
+use lib.ListN.{length}
+use Rattle.journeys.specs.Journey.{Contact, Contacts}
+use Rattle.words.specs.Words.{contactWord}
+use Rattle.rules.specs.Fresh.{Fresh}
+use Rattle.rules.specs.Fitting.{IsWindow, IsPair}
+use Rattle.rules.specs.declared.AskAnswer.the-variants.{Yes}
+use Rattle.rules.specs.Questions.{reachAnswer}
+use Rattle.rules.specs.Chains.{chainOf}
+use Rattle.rules.specs.Claims.{claimedAnswer}
+use Rattle.rules.specs.ChainRule.{NamedChain}
+
+-- No number comes twice.
+abbrev pub Distinct : List ℕ → Type 0
+Distinct [] = Unit {0}
+Distinct (a ∷ l) = (¬ List·Memᴰ a l) × Distinct l
+
+-- The animals that the contacts of a chain leave from.
+abbrev pub leavers : List Contact → List ℕ
+leavers [] = []
+leavers (k ∷ l) = k .from ∷ leavers l
+
+-- What else holds of the chain named on a fresh table.
+pub record NamedChains : Type 1 where
+  -- No animal comes twice, the goal among them, so n−1 words are always enough.
+  pub no-animal-twice : (n τ δ : ℕ) (S : Contacts) (T : List ℕ) → Fresh n τ δ S T → (u v first last : ℕ) → IsPair n u v → (l : List Contact) → NamedChain S δ u v first last l → Distinct (v ∷ leavers l)
+  pub enough : (n τ δ : ℕ) (S : Contacts) (T : List ℕ) → Fresh n τ δ S T → (u v first last : ℕ) → IsPair n u v → (l : List Contact) → NamedChain S δ u v first last l → length l + 1 ≤ n
+  -- The chain shown, claimed, is answered yes.
+  pub claimed : (n τ δ : ℕ) (S : Contacts) (T : List ℕ) → Fresh n τ δ S T → (u v first last : ℕ) → IsPair n u v → IsWindow τ δ first last → (l : List Contact) → NamedChain S δ u v first last l
+      → claimedAnswer T u v first last (map contactWord l) ≡ Yes
+  -- A chain is given exactly when reach says yes.
+  pub given-when : (n τ δ : ℕ) (S : Contacts) (T : List ℕ) → Fresh n τ δ S T → (u v first last : ℕ) → IsPair n u v → IsWindow τ δ first last
+      → (reachAnswer T u v first last ≡ Yes) ↔ ((l : List Contact) × (chainOf T u v first last ≡ some l))

@@ -1,0 +1,159 @@
+-- A text written piece by piece to the front of a list.
+use mathlib.Core.Path.{_≡_, refl, sym, ap, ap₂, _∙_, subst}
+use mathlib.Core.Bool.{Bool}
+use mathlib.Core.List.{List, [], _∷_, _++_, append-assoc, append-nil}
+use Prim.Native.Nat.{ℕ, zero, suc, _+_, _-_, _≤_, _<_}
+use native.Mathlib.Nat.{zero-add, le-of-eq}
+use native.Mathlib.Numerals.{add-one}
+use native.Mathlib.Omega.{arith}
+use lib.ListN.{length, take, drop, set, length-append, length-drop, take-append-drop, drop-of-length-le}
+use lib.Seq.{take-all, take-at, drop-at, drop-drop, sets, sets-eq, length-take-le}
+use Rattle.journeys.proofs.Tests.{Outcome, holds, fails, lt-outcome}
+use Rattle.rules.specs.Folds.{flat}
+use Rattle.table_text.specs.Onto.{onto}
+
+-- Of the text `all` the part before `at` is written, and `rest` is left; from `at` on the list is as it was.
+pub record Writing (all l out : List ℕ) (at : ℕ) (rest : List ℕ) : Type 0 where
+  pub whole : take at out ++ rest ≡ all
+  pub behind : drop at out ≡ drop at l
+  pub kept : length out ≡ length l
+  pub room : at + length rest ≤ length out
+
+-- The list with what a callee left in the rest that it was lent.
+abbrev pub back : List ℕ → ℕ → List ℕ → List ℕ
+back out at new = take at out ++ (new ++ drop (length out - at) (drop at out))
+
+-- At first all is left.
+pub start : (all l rest : List ℕ) → rest ≡ all → length all ≤ length l → Writing all l l 0 rest
+start all l rest e h = record { whole = e; behind = refl; kept = refl; room = omega (arith, ap length e) }
+
+module _ {all l out : List ℕ} {at : ℕ} {rest : List ℕ} (w : Writing all l out at rest) where
+  -- The part written ends at `at`.
+  front : length (take at out) ≡ at
+  front = length-take-le at out (omega (arith, w .room))
+
+  -- The rest of the list, as it is lent.
+  lent : take (length out - at) (drop at out) ≡ drop at out
+  lent = take-all (length out - at) (drop at out) (omega (arith, length-drop at out))
+
+  -- The next piece fits the rest of the list.
+  pub fits : (text more : List ℕ) → rest ≡ text ++ more → length text ≤ length (take (length out - at) (drop at out))
+  fits text more e = rw lent (omega (arith, length-drop at out, w .room, ap length e, length-append text more))
+
+  -- The next piece stands behind the part written.
+  next : (new text more : List ℕ) (k : ℕ) → rest ≡ text ++ more → k ≡ length text → new ≡ (take at out ++ text) ++ drop (at + k) out → Writing all l new (at + k) more
+  next new text more k e i f =
+      let h : length (take at out ++ text) ≡ at + k = length-append (take at out) text ∙ omega (arith, front) in
+      let size : length new ≡ length out =
+      ap length f
+      ∙ length-append (take at out ++ text) (drop (at + k) out)
+      ∙ omega (arith, h, length-drop (at + k) out, w .room, ap length e, length-append text more) in
+      record {
+        whole =
+            ap (λ (x : List ℕ). take (at + k) x ++ more) f
+            ∙ ap (λ (x : List ℕ). x ++ more) (take-at (take at out ++ text) (drop (at + k) out) (at + k) h)
+            ∙ append-assoc (take at out) text more
+            ∙ ap (λ (x : List ℕ). take at out ++ x) (sym e)
+            ∙ w .whole;
+        behind =
+            ap (drop (at + k)) f
+            ∙ drop-at (take at out ++ text) (drop (at + k) out) (at + k) h
+            ∙ sym (drop-drop k at out)
+            ∙ ap (drop k) (w .behind)
+            ∙ drop-drop k at l;
+        kept = size ∙ w .kept;
+        room = omega (arith, size, w .room, ap length e, length-append text more);
+      }
+
+  -- A piece is written by a callee that was lent the rest of the list.
+  pub piece : (new text more : List ℕ) (k : ℕ) → rest ≡ text ++ more → k ≡ length text → new ≡ onto text (take (length out - at) (drop at out))
+      → Writing all l (back out at new) (at + k) more
+  unfolding onto
+  piece new text more k e i f =
+      next _ text more k e i
+      (ap₂ (λ (x y : List ℕ). take at out ++ (x ++ y)) (f ∙ ap₂ (λ (x : List ℕ) (j : ℕ). text ++ drop j x) lent (sym i)) (drop-of-length-le (drop at out) {i = length out - at} (omega (arith, length-drop at out)))
+      ∙ ap (λ (x : List ℕ). take at out ++ x) (append-nil (text ++ drop k (drop at out)))
+      ∙ ap (λ (x : List ℕ). take at out ++ (text ++ x)) (drop-drop k at out)
+      ∙ sym (append-assoc (take at out) text (drop (at + k) out)))
+
+  -- The last piece fits the rest of the list, and is written there.
+  pub fits-last : (text : List ℕ) → rest ≡ text → length text ≤ length (take (length out - at) (drop at out))
+  fits-last text e = fits text [] (e ∙ sym (append-nil text))
+
+  pub last : (new text : List ℕ) (k : ℕ) → rest ≡ text → k ≡ length text → new ≡ onto text (take (length out - at) (drop at out)) → Writing all l (back out at new) (at + k) []
+  last new text k e i f = piece new text [] k (e ∙ sym (append-nil text)) i f
+
+  -- Bytes are written one after the other.
+  pub bytes : (text more : List ℕ) → rest ≡ text ++ more → Writing all l (sets out at text) (at + length text) more
+  bytes text more e = next (sets out at text) text more (length text) e refl (sets-eq text out at (omega (arith, w .room, ap length e, length-append text more)))
+
+  pub byte : (b : ℕ) (more : List ℕ) → rest ≡ b ∷ more → Writing all l (set out at b) (at + 1) more
+  byte b more e = bytes (b ∷ []) more e
+
+  -- At the end the text stands at the front of the list.
+  pub end : rest ≡ [] → (at ≡ length all) × (out ≡ onto all l)
+  unfolding onto
+  end e =
+      let h : take at out ≡ all = sym (append-nil (take at out)) ∙ ap (λ (x : List ℕ). take at out ++ x) (sym e) ∙ w .whole in
+      let i : at ≡ length all = sym front ∙ ap length h in
+      (i, sym (take-append-drop at out) ∙ ap₂ _++_ h (w .behind ∙ ap (λ (j : ℕ). drop j l) i))
+
+module _ {all l out : List ℕ} {at : ℕ} {rest : List ℕ} (w : Writing all l out at rest) (b : ℕ) where
+  -- The last byte, b, ends the text; any x equal to b may be stored for it.
+  pub last-place : rest ≡ b ∷ [] → at + 1 ≡ length all
+  last-place e = end (byte w b [] e) refl .0
+
+  pub last-byte : (x : ℕ) → rest ≡ b ∷ [] → x ≡ b → set out at x ≡ onto all l
+  last-byte x e i = ap (set out at) i ∙ end (byte w b [] e) refl .1
+
+-- The first piece fits the whole list.
+pub fits-whole : (all l text more : List ℕ) → text ++ more ≡ all → length all ≤ length l → length text ≤ length l
+fits-whole all l text more e h = omega (arith, ap length e, length-append text more)
+
+-- It is written by a callee that was lent the whole list.
+pub first : {all l : List ℕ} (new text more : List ℕ) (k : ℕ) → text ++ more ≡ all → k ≡ length text → new ≡ onto text l → length all ≤ length l → Writing all l new k more
+unfolding onto
+first {all} {l} new text more k e i f h =
+    subst (λ (j : ℕ). Writing all l new j more) (zero-add k)
+    (next (start all l (text ++ more) e h) new text more k refl i (f ∙ ap (λ (j : ℕ). text ++ drop j l) (sym i ∙ sym (zero-add k))))
+
+-- A text, a byte and more: the text with the byte behind it, then more.
+pub then : (text : List ℕ) (b : ℕ) (more : List ℕ) → text ++ (b ∷ more) ≡ (text ++ (b ∷ [])) ++ more
+then text b more = sym (append-assoc text (b ∷ []) more)
+
+-- ---- a text of parts
+
+-- A text and the next part of it.
+more : {all l out : List ℕ} {at : ℕ} (text : List ℕ) → Writing all l out at [] → length (all ++ text) ≤ length l → Writing (all ++ text) l out at text
+more {all} {l} {out} {at} text w h =
+    record {
+      whole = ap (λ (x : List ℕ). x ++ text) (sym (append-nil (take at out)) ∙ w .whole);
+      behind = w .behind;
+      kept = w .kept;
+      room = omega (arith, end w refl .0, w .kept, length-append all text);
+    }
+
+module _ (f : ℕ → List ℕ) where
+  -- The k-th part lies within the parts.
+  flat-room : (n k : ℕ) → k < n → length (flat f k ++ f k) ≤ length (flat f n)
+  unfolding flat
+  flat-room zero k h = absurd (omega arith)
+  flat-room (suc n) k h = go (lt-outcome k n) (flat-room n k)
+    where
+      go : {b : Bool} → Outcome (k < n) (n ≤ k) b → (k < n → length (flat f k ++ f k) ≤ length (flat f n)) → length (flat f k ++ f k) ≤ length (flat f n ++ f n)
+      go (holds o) r = let q = r o in omega (arith, length-append (flat f n) (f n))
+      go (fails o) r = let e : k ≡ n = omega arith in le-of-eq (ap (λ (i : ℕ). length (flat f i ++ f i)) e)
+
+  -- No part is written yet.
+  pub parts-start : (l : List ℕ) → Writing (flat f 0) l l 0 []
+  unfolding flat
+  parts-start l = start [] l [] refl (omega arith)
+
+  -- The next part is left.
+  pub parts-next : {l out : List ℕ} {at : ℕ} (n k : ℕ) → Writing (flat f k) l out at [] → k < n → length (flat f n) ≤ length l → Writing (flat f (k + 1)) l out at (f k)
+  unfolding flat
+  parts-next n k w h i = rw (add-one k) (more (f k) w (omega (arith, flat-room n k h)))
+
+  -- All parts are written.
+  pub parts-end : {l out : List ℕ} {at n k : ℕ} → Writing (flat f k) l out at [] → k ≡ n → (at ≡ length (flat f n)) × (out ≡ onto (flat f n) l)
+  parts-end {l} {out} {at} {n} {k} w e = subst (λ (i : ℕ). (at ≡ length (flat f i)) × (out ≡ onto (flat f i) l)) e (end w refl)
