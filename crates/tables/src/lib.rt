@@ -168,13 +168,9 @@ pub fn cell(table: &[u32], u: u32, v: u32) -> &[u32]
     ensures { λ r. ⌜ now r ≡ cellAt (animals (now (table .entry))) (ticks (now (table .entry))) (now (table .entry)) u v ⌝ }
 {
     let o = Opening::of_word(table[0]);
-    grid::cell(
-        &table[1..],
-        o.animals as usize,
-        o.ticks as usize + 1,
-        u as usize,
-        v as usize,
-    )
+    let n = o.animals as usize;
+    let size = o.ticks as usize + 1;
+    grid::cell(&table[1..], n, size, u as usize, v as usize)
 }
 
 // Writes an empty cell: a count of no rows, and unused words.

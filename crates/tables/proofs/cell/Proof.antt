@@ -9,9 +9,12 @@ use Rattle.tables.proofs.Stored.{lent-cells, lent-cell}
 use Rattle.tables.proofs.cell.Statement.{statement}
 use Rattle.tables.proofs.cell.Tie as tie
 
--- The start, from where the opening is read.
+-- The start, and where the opening is read, from where both its numbers are known.
+abbrev opened : tie.After-struct-known2 → tie.After-of-word
+opened c = c .before .before
+
 abbrev entry : tie.After-of-word → tie.Start
-entry c = c .before .before .before
+entry o = o .before .before .before
 
 -- An opening word stands first.
 first : (s : tie.Start) → 1 ≤ length (s .args .table .now)
@@ -19,7 +22,7 @@ first s = omega (arith, opens-length (s .args .table .now) (s .pre .0 .opens))
 
 cell-requires : tie.Need-cell-requires
 cell-requires c κs =
-    let o = c .before .before .before in
+    let o = opened (c .before) in
     let s = entry o in
     let e = o .of-word .ensures in
     let g = lent-cells (s .args .table .now) (s .pre .0) _ _ (e .0) (ap (λ (i : ℕ). i + 1) (e .1)) in
@@ -27,7 +30,7 @@ cell-requires c κs =
 
 returns : tie.Need-returns
 returns c =
-    let o = c .before .before .before .before in
+    let o = opened (c .before .before) in
     let s = entry o in
     let e = o .of-word .ensures in
     c .cell .ensures ∙ lent-cell (s .args .table .now) (s .pre .0) _ _ (e .0) (ap (λ (i : ℕ). i + 1) (e .1)) (s .args .u) (s .args .v)
@@ -36,5 +39,5 @@ pub cell-spec : {M : Type 1} → statement M
 cell-spec =
     tie.close
     (tie.spec
-    (λ c. omega (arith, first (c .before .before))) (λ c κs. search needs) (λ c. omega (arith, first (entry c))) (λ c. omega (arith, first (entry c)))
-    (λ c. search needs) (λ c. search needs) (λ c. search needs) (λ c. search needs) cell-requires returns)
+    (λ c. omega (arith, first (c .before .before))) (λ c κs. search needs) (λ c. search needs) (λ c. search needs) (λ c. search needs)
+    (λ c. omega (arith, first (entry (opened c)))) (λ c. omega (arith, first (entry (opened c)))) (λ c. search needs) cell-requires returns)
