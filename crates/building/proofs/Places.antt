@@ -1,17 +1,17 @@
--- One part of a list replaced: what becomes of that part and of the others.
+-- n·n cells of s words: one of them replaced, their numbers, and where each lies.
 use mathlib.Core.Path.{_≡_, refl, sym, ap, ap₂, _∙_, subst}
 use mathlib.Core.Logic.{_≢_, _⊎_, inl, inr}
 use mathlib.Core.List.{List, [], _∷_, _++_, append-assoc}
-use Prim.Native.Nat.{ℕ, zero, suc, _+_, _-_, _*_, _≤_, _<_}
-use native.Mathlib.Nat.{mul-le-mul}
-use native.Mathlib.Decide.{ℕ-discrete}
+use Prim.Native.Nat.{ℕ, zero, suc, _+_, _-_, _*_, _/_, _%_, _≤_, _<_}
+use native.Mathlib.Nat.{mul-le-mul, mul-le-mul-right, mod-lt, div-add-mod'}
+use native.Mathlib.Decide.{ℕ-discrete, decLe}
 use native.Mathlib.Omega.{arith}
 use lib.ListN.{length, getD, take, drop, set, length-append, length-drop, length-set, take-append-drop}
 use lib.Seq.{length-take-le, take-at, drop-at, take-append-le, drop-append-le, take-take, drop-drop, take-add, set-split, getD-take, getD-drop}
 use Rattle.parts.specs.Parts.{part, put}
 use Rattle.adding.specs.Steps.{cellIn}
 use Rattle.parts.proofs.Walk.{part-inside, next-part}
-use Rattle.rules.specs.Limits.{maxAnimals, maxCells}
+use Rattle.rules.specs.Limits.{maxAnimals, maxCells, maxCellWords}
 
 -- Of two different numbers one is below.
 pub apart : (j k : ℕ) → j ≢ k → (j < k) ⊎ (k < j)
@@ -114,24 +114,46 @@ number-same n x y u v h k e = go (ℕ-discrete x u)
 pub number-below : (n x y : ℕ) → x < n → y < n → x * n + y < n * n
 number-below n x y h k = let r = part-inside x n n h in omega arith
 
+-- The animals of cell number c.
+pub record PairOf (n c : ℕ) : Type 0 where
+  pub from-below : c / n < n
+  pub to-below : c % n < n
+  pub number : c / n * n + c % n ≡ c
+
+pub pair-of : (n c : ℕ) → c < n * n → PairOf n c
+pair-of n c h = record { from-below = go (decLe n (c / n)); to-below = mod-lt c {m = n} low; number = div-add-mod' c n }
+  where
+    low : 1 ≤ n
+    low = some n h
+      where
+        some : (n : ℕ) → c < n * n → 1 ≤ n
+        some zero q = absurd (omega arith)
+        some (suc n) q = omega arith
+
+    go : Dec (n ≤ c / n) → c / n < n
+    go (yes q) = absurd (let w = mul-le-mul-right n q in omega (arith, div-add-mod' c n))
+    go (no q) = omega (arith, q)
+
 -- ---- where a cell lies
 
 -- Cell (x, y) begins and ends inside the words, and is lent as it stands.
 pub record Lies (n s : ℕ) (body : List ℕ) (x y : ℕ) : Type 0 where
   pub row : x * n ≤ maxCells
   pub column : y < maxAnimals
+  pub short : s ≤ maxCellWords
   pub inside : (x * n + y) * s + s ≤ length body
   pub lent : take ((x * n + y) * s + s - (x * n + y) * s) (drop ((x * n + y) * s) body) ≡ cellIn n s body x y
 
 -- The place of every cell of animals below n.
-pub lies : (n s : ℕ) (body : List ℕ) (x y : ℕ) → n ≤ maxAnimals → length body ≡ n * n * s → x < n → y < n → Lies n s body x y
+pub lies : (n s : ℕ) (body : List ℕ) (x y : ℕ) → n ≤ maxAnimals → s ≤ maxCellWords → length body ≡ n * n * s → x < n → y < n → Lies n s body x y
 unfolding cellIn
-lies n s body x y few long h k =
+lies n s body x y few short long h k =
     let r : (x * n + y) * s + s - (x * n + y) * s ≡ s = omega arith in
     let z : x ≤ maxAnimals = omega arith in
     record {
       row = mul-le-mul z few;
       column = omega arith;
+      short = short;
       inside = omega (arith, part-inside (x * n + y) (n * n) s (number-below n x y h k));
       lent = ap (λ (i : ℕ). take i (drop ((x * n + y) * s) body)) r;
     }

@@ -16,7 +16,7 @@ use Rattle.journeys.proofs.Tests.{Outcome, holds, fails, le-outcome}
 use Rattle.journeys.proofs.Reach.{journey-limits}
 use Rattle.journeys.proofs.Theorems.{closure}
 use Rattle.cells.proofs.Search.{getD-member}
-use Rattle.building.specs.Last.{putLast, putLastFrom}
+use Rattle.building.specs.RowsInUse.{putLast, putLastFrom}
 
 -- ---- an interval that arrives last
 

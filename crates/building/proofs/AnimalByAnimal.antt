@@ -21,15 +21,16 @@ use Rattle.journeys.proofs.Tests.{Outcome, holds, fails, eq-outcome}
 use Rattle.rules.specs.Layout.{cellOf}
 use Rattle.rules.proofs.Fresh.{add-good}
 use Rattle.cells.specs.Stored.{orZero}
-use Rattle.parts.specs.Parts.{part, put}
+use Rattle.parts.specs.Parts.{put}
+use Rattle.parts.proofs.Walk.{lent-length}
 use Rattle.adding.specs.Steps.{cellIn, departing}
 use Rattle.adding.proofs.Ticks.{Tick, tick-cond, latest-tick}
-use Rattle.building.specs.Last.{putLast, putLastFrom, withRows, InUse}
+use Rattle.building.specs.RowsInUse.{putLast, putLastFrom, withRows, putWords, InUse, CanPutLast}
 use Rattle.building.specs.Marks.{marks, Marked}
-use Rattle.building.specs.Stage.{joined, Ready, Spread, Joining, Joins}
-use Rattle.building.proofs.Places.{apart, put-length as put-kept, part-put-here, part-put-there, number-same, lies}
-use Rattle.building.proofs.InOrder.{add-elsewhere, add-column}
-use Rattle.building.proofs.Words.{rows-length, rows-rest, rows-again, rows-in-use}
+use Rattle.building.specs.Stage.{addedBelow, CanAppend, InUseGrid, InUseCell, PartlyAdded, AddsForAnimals}
+use Rattle.building.proofs.Places.{apart, put-length as put-kept, part-put-here, part-put-there, number-same}
+use Rattle.building.proofs.TickOrder.{add-elsewhere, add-column}
+use Rattle.building.proofs.RowsInUse.{rows-length, rows-rest, rows-again, rows-in-use, cell-lies, lent-in-use}
 use Rattle.building.proofs.Marking.{marks-length, marks-next}
 
 -- Equal cells are marked alike.
@@ -42,14 +43,14 @@ marked-cells {n} {τ} {body} {T} {U} {L} m f =
 
 module _ {n τ : ℕ} (δ : ℕ) {body : List ℕ} (T : Cells) {L : ℕ → List ℕ} (k : Contact) where
   -- Added for no animal.
-  pub joined-none : Marked n τ body T L → Marked n τ body (joined δ T k 0) L
-  unfolding joined
-  joined-none m = marked-cells m (λ x y h j. rw (le-ltb x 0 (omega arith)) refl)
+  pub added-none : Marked n τ body T L → Marked n τ body (addedBelow δ T k 0) L
+  unfolding addedBelow
+  added-none m = marked-cells m (λ x y h j. rw (le-ltb x 0 (omega arith)) refl)
 
   -- Added for all animals.
-  pub joined-all : Ready n τ δ T k → Marked n τ body (joined δ T k n) L → Marked n τ body (add δ T k) L
-  unfolding joined
-  joined-all r m = marked-cells m (λ x y h j. rw (lt-ltb x n h) (go x y h j (eq-outcome y (k .to))))
+  pub added-all : CanAppend n τ δ T k → Marked n τ body (addedBelow δ T k n) L → Marked n τ body (add δ T k) L
+  unfolding addedBelow
+  added-all r m = marked-cells m (λ x y h j. rw (lt-ltb x n h) (go x y h j (eq-outcome y (k .to))))
     where
       go : (x y : ℕ) → x < n → y < n → {b : Bool} → Outcome (y ≡ k .to) (y ≢ k .to) b → cond b (add δ T k x y) (T x y) ≡ add δ T k x y
       go x y h j (holds e) = refl
@@ -57,17 +58,17 @@ module _ {n τ : ℕ} (δ : ℕ) {body : List ℕ} (T : Cells) {L : ℕ → List
 
 module _ (n s δ : ℕ) (k : Contact) where
   -- At first nothing is added.
-  pub joins-none : (j : ℕ) (body : List ℕ) → Joins n s δ k j j body body
-  joins-none j body T L r m = m
+  pub adds-none : (j : ℕ) (body : List ℕ) → AddsForAnimals n s δ k j j body body
+  adds-none j body T L r m = m
 
   -- One turn after the others.
-  pub joins-then : (j i h : ℕ) (b c d : List ℕ) → Joins n s δ k j i b c → Joins n s δ k i h c d → Joins n s δ k j h b d
-  joins-then j i h b c d f g T L r m = g T L r (f T L r m)
+  pub adds-then : (j i h : ℕ) (b c d : List ℕ) → AddsForAnimals n s δ k j i b c → AddsForAnimals n s δ k i h c d → AddsForAnimals n s δ k j h b d
+  adds-then j i h b c d f g T L r m = g T L r (f T L r m)
 
   -- The words that a turn leaves are ready for the next.
-  pub joining-on : (j i : ℕ) (b c : List ℕ) → Joining n s δ k j b → Joins n s δ k j i b c → Joining n s δ k i c
-  joining-on j i b c p f =
-      record { cells = p .cells; lists = p .lists; size = p .size; ready = p .ready; marked = f (p .cells) (p .lists) (p .ready) (p .marked) }
+  pub partly-added-on : (j i : ℕ) (b c : List ℕ) → PartlyAdded n s δ k j b → AddsForAnimals n s δ k j i b c → PartlyAdded n s δ k i c
+  partly-added-on j i b c p f =
+      record { cells = p .cells; lists = p .lists; can-append = p .can-append; marked = f (p .cells) (p .lists) (p .can-append) (p .marked) }
 
 -- ---- one animal
 
@@ -100,15 +101,15 @@ behind-rows L w τ c m (inr e) h =
     ∙ marks-next L w (length c) (τ - m)
     ∙ ap (λ (i : ℕ). marks L w i (τ - m)) d
 
-module _ {n s δ : ℕ} {u v t x : ℕ} {body : List ℕ} {T : Cells} {L : ℕ → List ℕ} (hs : 0 < s) (hx : x < n) (r : Ready n (s - 1) δ T (contact u v t)) (m : Marked n (s - 1) body (joined δ T (contact u v t) x) L) where
+module _ (s : ℕ) {n δ u v t x : ℕ} {body : List ℕ} {T : Cells} {L : ℕ → List ℕ} (hx : x < n) (r : CanAppend n (s - 1) δ T (contact u v t)) (m : Marked n (s - 1) body (addedBelow δ T (contact u v t) x) L) where
   abbrev k : Contact
   k = contact u v t
 
   s-is : s - 1 + 1 ≡ s
-  s-is = omega arith
+  s-is = omega (arith, r .sizes .τ-low)
 
-  formed : (a b : ℕ) → a < n → b < n → WellFormedCell (s - 1) δ (joined δ T k x a b)
-  unfolding joined
+  formed : (a b : ℕ) → a < n → b < n → WellFormedCell (s - 1) δ (addedBelow δ T k x a b)
+  unfolding addedBelow
   formed a b ha hb = go (ltb a x && eqb b v)
     where
       go : (w : Bool) → WellFormedCell (s - 1) δ (cond w (add δ T k a b) (T a b))
@@ -116,15 +117,15 @@ module _ {n s δ : ℕ} {u v t x : ℕ} {body : List ℕ} {T : Cells} {L : ℕ �
       go false = r .good .cells a b ha hb
 
   -- The words of a cell.
-  words : (a b : ℕ) → a < n → b < n → cellIn n s body a b ≡ withRows (joined δ T k x a b) (marks L (a * n + b) (length (joined δ T k x a b)) (s - 1 - length (joined δ T k x a b)))
+  words : (a b : ℕ) → a < n → b < n → cellIn n s body a b ≡ withRows (addedBelow δ T k x a b) (marks L (a * n + b) (length (addedBelow δ T k x a b)) (s - 1 - length (addedBelow δ T k x a b)))
   words a b ha hb = ap (λ (q : ℕ). cellIn n q body a b) (sym s-is) ∙ m .cells a b ha hb
 
-  few : (a b : ℕ) → a < n → b < n → length (joined δ T k x a b) + length (marks L (a * n + b) (length (joined δ T k x a b)) (s - 1 - length (joined δ T k x a b))) ≡ s - 1
+  few : (a b : ℕ) → a < n → b < n → length (addedBelow δ T k x a b) + length (marks L (a * n + b) (length (addedBelow δ T k x a b)) (s - 1 - length (addedBelow δ T k x a b))) ≡ s - 1
   few a b ha hb =
-      let o = rows-suffice (s - 1) δ (joined δ T k x a b) (formed a b ha hb) in
-      omega (arith, marks-length L (a * n + b) (length (joined δ T k x a b)) (s - 1 - length (joined δ T k x a b)))
+      let o = rows-suffice (s - 1) δ (addedBelow δ T k x a b) (formed a b ha hb) in
+      omega (arith, marks-length L (a * n + b) (length (addedBelow δ T k x a b)) (s - 1 - length (addedBelow δ T k x a b)))
 
-  bounds : (a b : ℕ) → a < n → b < n → (i : Interval) → List·Memᴰ i (joined δ T k x a b) → (1 ≤ i .departure) × (i .departure ≤ s - 1) × (i .arrival ≤ maxArrival)
+  bounds : (a b : ℕ) → a < n → b < n → (i : Interval) → List·Memᴰ i (addedBelow δ T k x a b) → (1 ≤ i .departure) × (i .departure ≤ s - 1) × (i .arrival ≤ maxArrival)
   bounds a b ha hb i q =
       let o = formed a b ha hb .limits i q in
       let z = r .sizes in
@@ -134,30 +135,37 @@ module _ {n s δ : ℕ} {u v t x : ℕ} {body : List ℕ} {T : Cells} {L : ℕ �
   in-use a b ha hb =
       let z = r .sizes in
       subst InUse (sym (words a b ha hb))
-      (rows-in-use (joined δ T k x a b) (marks L (a * n + b) (length (joined δ T k x a b)) (s - 1 - length (joined δ T k x a b))) (omega (arith, few a b ha hb, z .τ-high)) (formed a b ha hb .rising)
+      (rows-in-use (addedBelow δ T k x a b) (marks L (a * n + b) (length (addedBelow δ T k x a b)) (s - 1 - length (addedBelow δ T k x a b))) (omega (arith, few a b ha hb, z .τ-high)) (formed a b ha hb .rising)
       (λ i q. let o = bounds a b ha hb i q in (o .0, omega (arith, o .1, few a b ha hb), o .2)))
 
   -- Every cell is as the functions on a cell ask.
-  pub join-spread : Spread n s body
-  join-spread = let z = r .sizes in record { few = z .n-high; long = m .long ∙ ap (λ (q : ℕ). n * n * q) s-is; short = omega (arith, z .τ-high); cells = in-use }
+  pub grid-in-use : InUseGrid n s body
+  grid-in-use = let z = r .sizes in record { few = z .n-high; long = m .long ∙ ap (λ (q : ℕ). n * n * q) s-is; short = omega (arith, z .τ-high); cells = in-use }
+
+  -- The cells of x that are read and written.
+  pub source-cell : InUseCell n s body x u
+  source-cell = record { grid = grid-in-use; from-below = hx; to-below = r .legal .from-below }
+
+  pub goal-cell : InUseCell n s body x v
+  goal-cell = record { grid = grid-in-use; from-below = hx; to-below = r .legal .to-below }
 
   -- The rows in use of a cell.
-  cell-is : (a b : ℕ) → a < n → b < n → cellOf (cellIn n s body a b) ≡ joined δ T k x a b
+  cell-is : (a b : ℕ) → a < n → b < n → cellOf (cellIn n s body a b) ≡ addedBelow δ T k x a b
   cell-is a b ha hb =
       let z = r .sizes in
       ap cellOf (words a b ha hb)
-      ∙ rows-again (joined δ T k x a b) (marks L (a * n + b) (length (joined δ T k x a b)) (s - 1 - length (joined δ T k x a b))) (omega (arith, few a b ha hb, z .τ-high))
+      ∙ rows-again (addedBelow δ T k x a b) (marks L (a * n + b) (length (addedBelow δ T k x a b)) (s - 1 - length (addedBelow δ T k x a b))) (omega (arith, few a b ha hb, z .τ-high))
       (λ i q. let o = bounds a b ha hb i q in (omega (arith, o .1, z .τ-high), o .2))
 
   -- Those of x are as they were.
-  own : (b : ℕ) → joined δ T k x x b ≡ T x b
-  unfolding joined
+  own : (b : ℕ) → addedBelow δ T k x x b ≡ T x b
+  unfolding addedBelow
   own b = rw (le-ltb x x (omega arith)) refl
 
   -- The departure read off the words is that of the rule.
-  pub join-departs : departing n s body u t x ≡ orZero (departureOf T k x)
+  pub departs-by-rule : departing n s body u t x ≡ orZero (departureOf T k x)
   unfolding departing departureOf
-  join-departs = ap (λ (c : Cell). orZero (cond (eqb x u) (some t) (latestDeparture c t))) (cell-is x u hx (r .legal .from-below) ∙ own u)
+  departs-by-rule = ap (λ (c : Cell). orZero (cond (eqb x u) (some t) (latestDeparture c t))) (cell-is x u hx (r .legal .from-below) ∙ own u)
 
   ticks : Tick s (departureOf T k x)
   unfolding departureOf
@@ -166,8 +174,8 @@ module _ {n s δ : ℕ} {u v t x : ℕ} {body : List ℕ} {T : Cells} {L : ℕ �
       (latest-tick s t (T x u) (λ i q. let o = r .good .cells x u hx (r .legal .from-below) .limits i q in (o .departs, omega (arith, o .in-time))))
 
   -- With x added.
-  next : (body₁ : List ℕ) → Marked n (s - 1) body₁ (λ a b. cond (eqb a x && eqb b v) (add δ T k a b) (joined δ T k x a b)) L → Marked n (s - 1) body₁ (joined δ T k (x + 1)) L
-  unfolding joined
+  next : (body₁ : List ℕ) → Marked n (s - 1) body₁ (λ a b. cond (eqb a x && eqb b v) (add δ T k a b) (addedBelow δ T k x a b)) L → Marked n (s - 1) body₁ (addedBelow δ T k (x + 1)) L
+  unfolding addedBelow
   next body₁ q = marked-cells q (λ a b ha hb. go a b (eq-outcome a x) (eq-outcome b v))
     where
       go : (a b : ℕ) {p : Bool} {q : Bool} → Outcome (a ≡ x) (a ≢ x) p → Outcome (b ≡ v) (b ≢ v) q → cond (p && q) (add δ T k a b) (cond (ltb a x && q) (add δ T k a b) (T a b)) ≡ cond (ltb a (x + 1) && q) (add δ T k a b) (T a b)
@@ -179,26 +187,26 @@ module _ {n s δ : ℕ} {u v t x : ℕ} {body : List ℕ} {T : Cells} {L : ℕ �
           same a d = ⊎-elim (λ h. lt-ltb a x h ∙ sym (lt-ltb a (x + 1) (omega arith))) (λ h. le-ltb a x (omega arith) ∙ sym (le-ltb a (x + 1) (omega arith))) (apart a x d)
 
   -- Where the rule adds nothing to the cell of x, nothing need be written.
-  pub join-same : add δ T k x v ≡ T x v → Marked n (s - 1) body (joined δ T k (x + 1)) L
-  join-same e = next body (marked-cells m (λ a b ha hb. go a b (eq-outcome a x) (eq-outcome b v)))
+  pub for-unchanged : add δ T k x v ≡ T x v → Marked n (s - 1) body (addedBelow δ T k (x + 1)) L
+  for-unchanged e = next body (marked-cells m (λ a b ha hb. go a b (eq-outcome a x) (eq-outcome b v)))
     where
-      go : (a b : ℕ) {p : Bool} {q : Bool} → Outcome (a ≡ x) (a ≢ x) p → Outcome (b ≡ v) (b ≢ v) q → joined δ T k x a b ≡ cond (p && q) (add δ T k a b) (joined δ T k x a b)
-      go a b (holds f) (holds g) = ap₂ (λ (c d : ℕ). joined δ T k x c d) f g ∙ own v ∙ sym e ∙ sym (ap₂ (λ (c d : ℕ). add δ T k c d) f g)
+      go : (a b : ℕ) {p : Bool} {q : Bool} → Outcome (a ≡ x) (a ≢ x) p → Outcome (b ≡ v) (b ≢ v) q → addedBelow δ T k x a b ≡ cond (p && q) (add δ T k a b) (addedBelow δ T k x a b)
+      go a b (holds f) (holds g) = ap₂ (λ (c d : ℕ). addedBelow δ T k x c d) f g ∙ own v ∙ sym e ∙ sym (ap₂ (λ (c d : ℕ). add δ T k c d) f g)
       go a b (holds f) (fails g) = refl
       go a b (fails f) g = refl
 
   -- For x itself the goal of the contact: no cell.
-  pub join-goal : x ≡ v → Marked n (s - 1) body (joined δ T k (x + 1)) L
-  join-goal e = join-same (subst (λ (w : ℕ). add δ T k x w ≡ T x w) e (add-diagonal δ T k x))
+  pub for-goal : x ≡ v → Marked n (s - 1) body (addedBelow δ T k (x + 1)) L
+  for-goal e = for-unchanged (subst (λ (w : ℕ). add δ T k x w ≡ T x w) e (add-diagonal δ T k x))
 
   module _ (d : x ≢ v) where
     column : add δ T k x v ≡ putLastFrom (departureOf T k x) (t + δ) (T x v)
     column = add-column δ T k x d (r .good .cells x v hx (r .legal .to-below) .rising) (λ i q. r .early x v hx (r .legal .to-below) i q .1)
 
     -- No departure.
-    pub join-none : (w : ℕ) → w ≡ departing n s body u t x → w ≡ 0 → Marked n (s - 1) body (joined δ T k (x + 1)) L
+    pub for-no-departure : (w : ℕ) → w ≡ departing n s body u t x → w ≡ 0 → Marked n (s - 1) body (addedBelow δ T k (x + 1)) L
     unfolding putLastFrom
-    join-none w e z = join-same (column ∙ ap (λ (o : Option ℕ). putLastFrom o (t + δ) (T x v)) (none-of (departureOf T k x) ticks (sym join-departs ∙ sym e ∙ z)))
+    for-no-departure w e z = for-unchanged (column ∙ ap (λ (o : Option ℕ). putLastFrom o (t + δ) (T x v)) (none-of (departureOf T k x) ticks (sym departs-by-rule ∙ sym e ∙ z)))
       where
         none-of : (o : Option ℕ) → Tick s o → orZero o ≡ 0 → o ≡ none
         none-of none q f = refl
@@ -206,26 +214,37 @@ module _ {n s δ : ℕ} {u v t x : ℕ} {body : List ℕ} {T : Cells} {L : ℕ �
 
     module _ (w : ℕ) (e : w ≡ departing n s body u t x) (z : w ≢ 0) where
       departs : departureOf T k x ≡ some w
-      departs = some-of (departureOf T k x) (e ∙ join-departs)
+      departs = some-of (departureOf T k x) (e ∙ departs-by-rule)
         where
           some-of : (o : Option ℕ) → w ≡ orZero o → o ≡ some w
           some-of none f = absurd (z f)
           some-of (some a) f = ap some (sym f)
 
       -- The departure is a tick of the table.
-      pub join-tick : (1 ≤ w) × (w < s)
-      join-tick = subst (Tick s) departs ticks
+      departure-tick : (1 ≤ w) × (w < s)
+      departure-tick = subst (Tick s) departs ticks
+
+      -- The interval can be put at the end of the cell, lent.
+      pub can-put : CanPutLast w (t + δ) (take ((x * n + v) * s + s - (x * n + v) * s) (drop ((x * n + v) * s) body))
+      can-put =
+          let z = r .sizes in
+          record {
+            in-use = lent-in-use goal-cell;
+            departs = departure-tick .0;
+            in-time = omega (arith, departure-tick .1, lent-length body ((x * n + v) * s) s (cell-lies goal-cell .inside));
+            arrives = omega (arith, r .legal .to-last, z .τ-high, z .δ-high);
+          }
 
       added : putLast (interval w (t + δ)) (T x v) ≡ add δ T k x v
       unfolding putLastFrom
       added = sym (column ∙ ap (λ (o : Option ℕ). putLastFrom o (t + δ) (T x v)) departs)
 
       -- The interval put at the end of the cell of x.
-      pub join-put : (lent new : List ℕ) → lent ≡ cellIn n s body x v
-          → new ≡ withRows (putLast (interval w (t + δ)) (cellOf lent)) (drop (length (putLast (interval w (t + δ)) (cellOf lent)) + 1) lent)
-          → Marked n (s - 1) (put s (x * n + v) new body) (joined δ T k (x + 1)) L
+      pub for-put : (lent new : List ℕ) → lent ≡ cellIn n s body x v
+          → new ≡ putWords (interval w (t + δ)) lent
+          → Marked n (s - 1) (put s (x * n + v) new body) (addedBelow δ T k (x + 1)) L
       unfolding cellIn
-      join-put lent new f g =
+      for-put lent new f g =
           next (put s (x * n + v) new body)
           (record {
             long = put-kept s (x * n + v) new body new-long inside ∙ m .long;
@@ -264,14 +283,14 @@ module _ {n s δ : ℕ} {u v t x : ℕ} {body : List ℕ} {T : Cells} {L : ℕ �
           new-long = ap length new-is ∙ rows-length c (marks L (x * n + v) (length c) (s - 1 - length c)) ∙ omega (arith, rows-fit, marks-length L (x * n + v) (length c) (s - 1 - length c))
 
           inside : (x * n + v) * s + s ≤ length body
-          inside = lies n s body x v (r .sizes .n-high) (join-spread .long) hx hv .inside
+          inside = cell-lies goal-cell .inside
 
-          old : (a b : ℕ) → a < n → b < n → a * n + b ≢ x * n + v → take s (drop ((a * n + b) * s) (put s (x * n + v) new body)) ≡ withRows (joined δ T k x a b) (marks L (a * n + b) (length (joined δ T k x a b)) (s - 1 - length (joined δ T k x a b)))
+          old : (a b : ℕ) → a < n → b < n → a * n + b ≢ x * n + v → take s (drop ((a * n + b) * s) (put s (x * n + v) new body)) ≡ withRows (addedBelow δ T k x a b) (marks L (a * n + b) (length (addedBelow δ T k x a b)) (s - 1 - length (addedBelow δ T k x a b)))
           old a b ha hb q = part-put-there s (x * n + v) new body new-long inside (a * n + b) q ∙ words a b ha hb
 
           go : (a b : ℕ) → a < n → b < n → {p : Bool} {q : Bool} → Outcome (a ≡ x) (a ≢ x) p → Outcome (b ≡ v) (b ≢ v) q
               → take s (drop ((a * n + b) * s) (put s (x * n + v) new body))
-              ≡ withRows (cond (p && q) (add δ T k a b) (joined δ T k x a b)) (marks L (a * n + b) (length (cond (p && q) (add δ T k a b) (joined δ T k x a b))) (s - 1 - length (cond (p && q) (add δ T k a b) (joined δ T k x a b))))
+              ≡ withRows (cond (p && q) (add δ T k a b) (addedBelow δ T k x a b)) (marks L (a * n + b) (length (cond (p && q) (add δ T k a b) (addedBelow δ T k x a b))) (s - 1 - length (cond (p && q) (add δ T k a b) (addedBelow δ T k x a b))))
           go a b ha hb (holds i) (holds j) =
               ap₂ (λ (y o : ℕ). take s (drop ((y * n + o) * s) (put s (x * n + v) new body))) i j
               ∙ part-put-here s (x * n + v) new body new-long inside
@@ -281,9 +300,9 @@ module _ {n s δ : ℕ} {u v t x : ℕ} {body : List ℕ} {T : Cells} {L : ℕ �
           go a b ha hb (fails i) o = old a b ha hb (λ q. i (number-same n a b x v hb hv q .0))
 
       -- The same, with the words as a caller gets them back.
-      pub join-done : (lent new : List ℕ) → lent ≡ cellIn n s body x v
-          → new ≡ withRows (putLast (interval w (t + δ)) (cellOf lent)) (drop (length (putLast (interval w (t + δ)) (cellOf lent)) + 1) lent)
-          → Marked n (s - 1) (take ((x * n + v) * s) body ++ (new ++ drop ((x * n + v) * s + s - (x * n + v) * s) (drop ((x * n + v) * s) body))) (joined δ T k (x + 1)) L
-      join-done lent new f g =
+      pub for-given-back : (lent new : List ℕ) → lent ≡ cellIn n s body x v
+          → new ≡ putWords (interval w (t + δ)) lent
+          → Marked n (s - 1) (take ((x * n + v) * s) body ++ (new ++ drop ((x * n + v) * s + s - (x * n + v) * s) (drop ((x * n + v) * s) body))) (addedBelow δ T k (x + 1)) L
+      for-given-back lent new f g =
           let q : s ≡ (x * n + v) * s + s - (x * n + v) * s = omega arith in
-          subst (λ (i : ℕ). Marked n (s - 1) (take ((x * n + v) * s) body ++ (new ++ drop i (drop ((x * n + v) * s) body))) (joined δ T k (x + 1)) L) q (join-put lent new f g)
+          subst (λ (i : ℕ). Marked n (s - 1) (take ((x * n + v) * s) body ++ (new ++ drop i (drop ((x * n + v) * s) body))) (addedBelow δ T k (x + 1)) L) q (for-put lent new f g)
