@@ -26,7 +26,7 @@ use Rattle.parts.proofs.Walk.{lent-length}
 use Rattle.adding.specs.Steps.{cellIn, departing}
 use Rattle.adding.proofs.Ticks.{Tick, tick-cond, latest-tick}
 use Rattle.building.specs.RowsInUse.{putLast, putLastFrom, withRows, putWords, InUse, CanPutLast}
-use Rattle.building.specs.Marks.{marks, Marked}
+use Rattle.building.specs.Marks.{marks, markedWords, Marked}
 use Rattle.building.specs.Stage.{addedBelow, CanAppend, InUseGrid, InUseCell, PartlyAdded, AddsForAnimals}
 use Rattle.building.proofs.Places.{apart, put-length as put-kept, part-put-here, part-put-there, number-same}
 use Rattle.building.proofs.TickOrder.{add-elsewhere, add-column}
@@ -38,7 +38,7 @@ pub marked-cells : {n τ : ℕ} {body : List ℕ} {T U : Cells} {L : ℕ → Lis
 marked-cells {n} {τ} {body} {T} {U} {L} m f =
     record {
       long = m .long;
-      cells = λ x y h k. m .cells x y h k ∙ ap (λ (c : Cell). withRows c (marks L (x * n + y) (length c) (τ - length c))) (f x y h k);
+      cells = λ x y h k. m .cells x y h k ∙ ap (λ (c : Cell). markedWords τ L (x * n + y) c) (f x y h k);
     }
 
 module _ {n τ : ℕ} (δ : ℕ) {body : List ℕ} (T : Cells) {L : ℕ → List ℕ} (k : Contact) where
@@ -86,17 +86,17 @@ put-length i (j ∷ k ∷ c) = ⊎-elim (λ e. inl (omega arith)) (λ e. inr (om
 
 -- What stands behind a cell with as many rows, or one more.
 behind-rows : (L : ℕ → List ℕ) (w τ : ℕ) (c : Cell) (m : ℕ) → (m ≡ length c) ⊎ (m ≡ length c + 1) → m ≤ τ
-    → drop (m + 1) (withRows c (marks L w (length c) (τ - length c))) ≡ marks L w m (τ - m)
+    → drop (m + 1) (markedWords τ L w c) ≡ marks L w m (τ - m)
 behind-rows L w τ c m (inl e) h =
-    ap (λ (i : ℕ). drop (i + 1) (withRows c (marks L w (length c) (τ - length c)))) e
+    ap (λ (i : ℕ). drop (i + 1) (markedWords τ L w c)) e
     ∙ rows-rest c (marks L w (length c) (τ - length c))
     ∙ ap (λ (i : ℕ). marks L w i (τ - i)) (sym e)
 behind-rows L w τ c m (inr e) h =
     let a : m + 1 ≡ length c + 1 + 1 = omega arith in
     let b : τ - length c ≡ suc (τ - m) = omega arith in
     let d : suc (length c) ≡ m = omega arith in
-    ap (λ (i : ℕ). drop i (withRows c (marks L w (length c) (τ - length c)))) a
-    ∙ sym (drop-drop 1 (length c + 1) (withRows c (marks L w (length c) (τ - length c))))
+    ap (λ (i : ℕ). drop i (markedWords τ L w c)) a
+    ∙ sym (drop-drop 1 (length c + 1) (markedWords τ L w c))
     ∙ ap (drop 1) (rows-rest c (marks L w (length c) (τ - length c)) ∙ ap (marks L w (length c)) b)
     ∙ marks-next L w (length c) (τ - m)
     ∙ ap (λ (i : ℕ). marks L w i (τ - m)) d
@@ -117,7 +117,7 @@ module _ (s : ℕ) {n δ u v t x : ℕ} {body : List ℕ} {T : Cells} {L : ℕ �
       go false = r .good .cells a b ha hb
 
   -- The words of a cell.
-  words : (a b : ℕ) → a < n → b < n → cellIn n s body a b ≡ withRows (addedBelow δ T k x a b) (marks L (a * n + b) (length (addedBelow δ T k x a b)) (s - 1 - length (addedBelow δ T k x a b)))
+  words : (a b : ℕ) → a < n → b < n → cellIn n s body a b ≡ markedWords (s - 1) L (a * n + b) (addedBelow δ T k x a b)
   words a b ha hb = ap (λ (q : ℕ). cellIn n q body a b) (sym s-is) ∙ m .cells a b ha hb
 
   few : (a b : ℕ) → a < n → b < n → length (addedBelow δ T k x a b) + length (marks L (a * n + b) (length (addedBelow δ T k x a b)) (s - 1 - length (addedBelow δ T k x a b))) ≡ s - 1
@@ -266,13 +266,13 @@ module _ (s : ℕ) {n δ u v t x : ℕ} {body : List ℕ} {T : Cells} {L : ℕ �
           put-is : putLast (interval w (t + δ)) (cellOf lent) ≡ c
           put-is = ap (putLast (interval w (t + δ))) lent-cell ∙ added
 
-          lent-words : lent ≡ withRows (T x v) (marks L (x * n + v) (length (T x v)) (s - 1 - length (T x v)))
-          lent-words = f ∙ words x v hx hv ∙ ap (λ (q : Cell). withRows q (marks L (x * n + v) (length q) (s - 1 - length q))) (own v)
+          lent-words : lent ≡ markedWords (s - 1) L (x * n + v) (T x v)
+          lent-words = f ∙ words x v hx hv ∙ ap (λ (q : Cell). markedWords (s - 1) L (x * n + v) q) (own v)
 
           grown : (length c ≡ length (T x v)) ⊎ (length c ≡ length (T x v) + 1)
           grown = subst (λ (q : Cell). (length q ≡ length (T x v)) ⊎ (length q ≡ length (T x v) + 1)) added (put-length (interval w (t + δ)) (T x v))
 
-          new-is : new ≡ withRows c (marks L (x * n + v) (length c) (s - 1 - length c))
+          new-is : new ≡ markedWords (s - 1) L (x * n + v) c
           new-is =
               g
               ∙ ap (λ (q : Cell). withRows q (drop (length q + 1) lent)) put-is
@@ -285,17 +285,17 @@ module _ (s : ℕ) {n δ u v t x : ℕ} {body : List ℕ} {T : Cells} {L : ℕ �
           inside : (x * n + v) * s + s ≤ length body
           inside = cell-lies goal-cell .inside
 
-          old : (a b : ℕ) → a < n → b < n → a * n + b ≢ x * n + v → take s (drop ((a * n + b) * s) (put s (x * n + v) new body)) ≡ withRows (addedBelow δ T k x a b) (marks L (a * n + b) (length (addedBelow δ T k x a b)) (s - 1 - length (addedBelow δ T k x a b)))
+          old : (a b : ℕ) → a < n → b < n → a * n + b ≢ x * n + v → take s (drop ((a * n + b) * s) (put s (x * n + v) new body)) ≡ markedWords (s - 1) L (a * n + b) (addedBelow δ T k x a b)
           old a b ha hb q = part-put-there s (x * n + v) new body new-long inside (a * n + b) q ∙ words a b ha hb
 
           go : (a b : ℕ) → a < n → b < n → {p : Bool} {q : Bool} → Outcome (a ≡ x) (a ≢ x) p → Outcome (b ≡ v) (b ≢ v) q
               → take s (drop ((a * n + b) * s) (put s (x * n + v) new body))
-              ≡ withRows (cond (p && q) (add δ T k a b) (addedBelow δ T k x a b)) (marks L (a * n + b) (length (cond (p && q) (add δ T k a b) (addedBelow δ T k x a b))) (s - 1 - length (cond (p && q) (add δ T k a b) (addedBelow δ T k x a b))))
+              ≡ markedWords (s - 1) L (a * n + b) (cond (p && q) (add δ T k a b) (addedBelow δ T k x a b))
           go a b ha hb (holds i) (holds j) =
               ap₂ (λ (y o : ℕ). take s (drop ((y * n + o) * s) (put s (x * n + v) new body))) i j
               ∙ part-put-here s (x * n + v) new body new-long inside
               ∙ new-is
-              ∙ sym (ap₂ (λ (y o : ℕ). withRows (add δ T k y o) (marks L (y * n + o) (length (add δ T k y o)) (s - 1 - length (add δ T k y o)))) i j)
+              ∙ sym (ap₂ (λ (y o : ℕ). markedWords (s - 1) L (y * n + o) (add δ T k y o)) i j)
           go a b ha hb (holds i) (fails j) = old a b ha hb (λ q. j (number-same n a b x v hb hv q .1))
           go a b ha hb (fails i) o = old a b ha hb (λ q. i (number-same n a b x v hb hv q .0))
 
