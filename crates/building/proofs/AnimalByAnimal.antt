@@ -21,16 +21,17 @@ use Rattle.journeys.proofs.Tests.{Outcome, holds, fails, eq-outcome}
 use Rattle.rules.specs.Layout.{cellOf}
 use Rattle.rules.proofs.Fresh.{add-good}
 use Rattle.cells.specs.Stored.{orZero}
-use Rattle.parts.specs.Parts.{put}
-use Rattle.parts.proofs.Walk.{lent-length}
-use Rattle.adding.specs.Steps.{cellIn, departing}
-use Rattle.adding.proofs.Ticks.{Tick, tick-cond, latest-tick}
+use Rattle.grid.specs.Parts.{put}
+use Rattle.grid.proofs.Places.{place, part-length}
+use Rattle.grid.specs.Cells.{cellIn, Grid}
+use Rattle.adding.specs.Steps.{departing}
+use Rattle.tables.proofs.Ticks.{Tick, tick-cond, latest-tick}
 use Rattle.building.specs.RowsInUse.{putLast, putLastFrom, withRows, putWords, InUse, CanPutLast}
 use Rattle.building.specs.Marks.{marks, markedWords, Marked}
-use Rattle.building.specs.Stage.{addedBelow, CanAppend, InUseGrid, InUseCell, PartlyAdded, AddsForAnimals}
+use Rattle.building.specs.Stage.{addedBelow, CanAppend, InUseCell, PartlyAdded, AddsForAnimals}
 use Rattle.building.proofs.Places.{apart, put-length as put-kept, part-put-here, part-put-there, number-same}
 use Rattle.building.proofs.TickOrder.{add-elsewhere, add-column}
-use Rattle.building.proofs.RowsInUse.{rows-length, rows-rest, rows-again, rows-in-use, cell-lies, lent-in-use}
+use Rattle.building.proofs.RowsInUse.{rows-length, rows-rest, rows-again, rows-in-use}
 use Rattle.building.proofs.Marking.{marks-length, marks-next}
 
 -- Equal cells are marked alike.
@@ -139,8 +140,8 @@ module _ (s : ℕ) {n δ u v t x : ℕ} {body : List ℕ} {T : Cells} {L : ℕ �
       (λ i q. let o = bounds a b ha hb i q in (o .0, omega (arith, o .1, few a b ha hb), o .2)))
 
   -- Every cell is as the functions on a cell ask.
-  pub grid-in-use : InUseGrid n s body
-  grid-in-use = let z = r .sizes in record { few = z .n-high; long = m .long ∙ ap (λ (q : ℕ). n * n * q) s-is; short = omega (arith, z .τ-high); cells = in-use }
+  pub grid-in-use : Grid InUse n s body
+  grid-in-use = let z = r .sizes in record { few = z .n-high; long = m .long ∙ ap (λ (q : ℕ). n * n * q) s-is; short = omega (arith, z .τ-high); every = in-use }
 
   -- The cells of x that are read and written.
   pub source-cell : InUseCell n s body x u
@@ -148,6 +149,10 @@ module _ (s : ℕ) {n δ u v t x : ℕ} {body : List ℕ} {T : Cells} {L : ℕ �
 
   pub goal-cell : InUseCell n s body x v
   goal-cell = record { grid = grid-in-use; from-below = hx; to-below = r .legal .to-below }
+
+  -- The one that is written ends inside the words.
+  pub goal-inside : (x * n + v) * s + s ≤ length body
+  goal-inside = place n s body x v (grid-in-use .few) (grid-in-use .long) hx (r .legal .to-below) .inside
 
   -- The rows in use of a cell.
   cell-is : (a b : ℕ) → a < n → b < n → cellOf (cellIn n s body a b) ≡ addedBelow δ T k x a b
@@ -225,13 +230,15 @@ module _ (s : ℕ) {n δ u v t x : ℕ} {body : List ℕ} {T : Cells} {L : ℕ �
       departure-tick = subst (Tick s) departs ticks
 
       -- The interval can be put at the end of the cell, lent.
-      pub can-put : CanPutLast w (t + δ) (take ((x * n + v) * s + s - (x * n + v) * s) (drop ((x * n + v) * s) body))
-      can-put =
+      pub can-put : {lent : List ℕ} → lent ≡ cellIn n s body x v → CanPutLast w (t + δ) lent
+      unfolding cellIn
+      can-put {lent} f =
           let z = r .sizes in
+          let l : length lent ≡ s = ap length f ∙ part-length s (x * n + v) body goal-inside in
           record {
-            in-use = lent-in-use goal-cell;
+            in-use = subst InUse (sym f) (in-use x v hx (r .legal .to-below));
             departs = departure-tick .0;
-            in-time = omega (arith, departure-tick .1, lent-length body ((x * n + v) * s) s (cell-lies goal-cell .inside));
+            in-time = omega (arith, departure-tick .1);
             arrives = omega (arith, r .legal .to-last, z .τ-high, z .δ-high);
           }
 
@@ -247,7 +254,7 @@ module _ (s : ℕ) {n δ u v t x : ℕ} {body : List ℕ} {T : Cells} {L : ℕ �
       for-put lent new f g =
           next (put s (x * n + v) new body)
           (record {
-            long = put-kept s (x * n + v) new body new-long inside ∙ m .long;
+            long = put-kept s (x * n + v) new body new-long goal-inside ∙ m .long;
             cells = λ a b ha hb. ap (λ (q : ℕ). take q (drop ((a * n + b) * q) (put s (x * n + v) new body))) s-is ∙ go a b ha hb (eq-outcome a x) (eq-outcome b v);
           })
         where
@@ -282,27 +289,24 @@ module _ (s : ℕ) {n δ u v t x : ℕ} {body : List ℕ} {T : Cells} {L : ℕ �
           new-long : length new ≡ s
           new-long = ap length new-is ∙ rows-length c (marks L (x * n + v) (length c) (s - 1 - length c)) ∙ omega (arith, rows-fit, marks-length L (x * n + v) (length c) (s - 1 - length c))
 
-          inside : (x * n + v) * s + s ≤ length body
-          inside = cell-lies goal-cell .inside
-
           old : (a b : ℕ) → a < n → b < n → a * n + b ≢ x * n + v → take s (drop ((a * n + b) * s) (put s (x * n + v) new body)) ≡ markedWords (s - 1) L (a * n + b) (addedBelow δ T k x a b)
-          old a b ha hb q = part-put-there s (x * n + v) new body new-long inside (a * n + b) q ∙ words a b ha hb
+          old a b ha hb q = part-put-there s (x * n + v) new body new-long goal-inside (a * n + b) q ∙ words a b ha hb
 
           go : (a b : ℕ) → a < n → b < n → {p : Bool} {q : Bool} → Outcome (a ≡ x) (a ≢ x) p → Outcome (b ≡ v) (b ≢ v) q
               → take s (drop ((a * n + b) * s) (put s (x * n + v) new body))
               ≡ markedWords (s - 1) L (a * n + b) (cond (p && q) (add δ T k a b) (addedBelow δ T k x a b))
           go a b ha hb (holds i) (holds j) =
               ap₂ (λ (y o : ℕ). take s (drop ((y * n + o) * s) (put s (x * n + v) new body))) i j
-              ∙ part-put-here s (x * n + v) new body new-long inside
+              ∙ part-put-here s (x * n + v) new body new-long goal-inside
               ∙ new-is
               ∙ sym (ap₂ (λ (y o : ℕ). markedWords (s - 1) L (y * n + o) (add δ T k y o)) i j)
           go a b ha hb (holds i) (fails j) = old a b ha hb (λ q. j (number-same n a b x v hb hv q .1))
           go a b ha hb (fails i) o = old a b ha hb (λ q. i (number-same n a b x v hb hv q .0))
 
       -- The same, with the words as a caller gets them back.
-      pub for-given-back : (lent new : List ℕ) → lent ≡ cellIn n s body x v
-          → new ≡ putWords (interval w (t + δ)) lent
-          → Marked n (s - 1) (take ((x * n + v) * s) body ++ (new ++ drop ((x * n + v) * s + s - (x * n + v) * s) (drop ((x * n + v) * s) body))) (addedBelow δ T k (x + 1)) L
-      for-given-back lent new f g =
-          let q : s ≡ (x * n + v) * s + s - (x * n + v) * s = omega arith in
-          subst (λ (i : ℕ). Marked n (s - 1) (take ((x * n + v) * s) body ++ (new ++ drop i (drop ((x * n + v) * s) body))) (addedBelow δ T k (x + 1)) L) q (for-put lent new f g)
+      pub for-given-back : (at : ℕ) → at ≡ (x * n + v) * s → (lent new : List ℕ) → lent ≡ cellIn n s body x v → new ≡ putWords (interval w (t + δ)) lent
+          → Marked n (s - 1) (take at body ++ (new ++ drop (at + s - at) (drop at body))) (addedBelow δ T k (x + 1)) L
+      for-given-back at o lent new f g =
+          let q : s ≡ at + s - at = omega arith in
+          subst (λ (i : ℕ). Marked n (s - 1) (take at body ++ (new ++ drop i (drop at body))) (addedBelow δ T k (x + 1)) L) q
+          (subst (λ (i : ℕ). Marked n (s - 1) (take i body ++ (new ++ drop s (drop i body))) (addedBelow δ T k (x + 1)) L) (sym o) (for-put lent new f g))

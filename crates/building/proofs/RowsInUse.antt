@@ -21,8 +21,6 @@ use Rattle.cells.specs.Stored.{departureEnd, arrivalEnd, frontBelow, orZero}
 use Rattle.cells.proofs.Search.{front-length, latest-none, latest-some}
 use Rattle.cells.proofs.Lent.{lent-is, row-is}
 use Rattle.building.specs.RowsInUse.{withRows, InUse}
-use Rattle.building.specs.Stage.{InUseCell}
-use Rattle.building.proofs.Places.{Lies, lies}
 
 -- ---- what the words say
 
@@ -160,14 +158,3 @@ module _ (t : ℕ) {n : ℕ} {xs : List ℕ} (p : Counted n xs) where
           let b = all-below (t + 1) (cellOf xs) (λ i m. let w = last-latest (cellOf xs) (intervalOf 0) k (p .in-use .rising) l i m in omega arith) in
           let f : frontBelow arrivalEnd (t + 1) (cellOf xs) ≡ suc k = omega (arith, b, l) in
           sym (ap orZero (latest-some t (cellOf xs) k (intervalOf 0) (p .in-use .rising) f) ∙ ap departureEnd r ∙ ap (λ (i : ℕ). get departureField (getD xs i 0)) (add-one k))
-
--- ---- a cell among the others
-
-module _ {n s : ℕ} {body : List ℕ} {x y : ℕ} (c : InUseCell n s body x y) where
-  -- Where it lies.
-  pub cell-lies : Lies n s body x y
-  cell-lies = lies n s body x y (c .grid .few) (c .grid .short) (c .grid .long) (c .from-below) (c .to-below)
-
-  -- Its words, lent.
-  pub lent-in-use : InUse (take ((x * n + y) * s + s - (x * n + y) * s) (drop ((x * n + y) * s) body))
-  lent-in-use = subst InUse (sym (cell-lies .lent)) (c .grid .cells x y (c .from-below) (c .to-below))

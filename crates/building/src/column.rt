@@ -14,9 +14,7 @@ fn departure(body: &[u32], n: usize, size: usize, x: usize, u: usize, t: u32) ->
     if x == u {
         return t;
     }
-    let at = (x * n + u) * size;
-    let end = at + size;
-    cell::departure_by(&body[at..end], t)
+    cell::departure_by(grid::cell(body, n, size, x, u), t)
 }
 
 // Puts the interval of x at the end of cell (x, v), where x is not v and has a departure.
@@ -41,7 +39,7 @@ fn append_for(
     if d == 0 {
         return;
     }
-    let at = (x * n + v) * size;
+    let at = grid::start(n, size, x, v);
     let end = at + size;
     cell::append(&mut body[at..end], d, t + carry);
 }

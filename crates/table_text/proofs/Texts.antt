@@ -13,8 +13,8 @@ use Rattle.rules.specs.Layout.{animals, ticks, carry, cellAt, cellOf, cellsOf}
 use Rattle.rules.specs.Logs.{heldContacts}
 use Rattle.rules.specs.Sheet.{decimal, space, newline, intervalText, intervalsText, cellText, firstLine, tableText}
 use Rattle.rules.proofs.Folds.{flat-same}
-use Rattle.parts.specs.Parts.{part}
-use Rattle.tables.proofs.Rows.{part-of-row}
+use Rattle.grid.specs.Parts.{part}
+use Rattle.grid.proofs.Places.{part-of-row}
 use Rattle.logs.specs.Ordered.{rowsIn}
 use Rattle.logs.proofs.Written.{Read}
 use Rattle.table_text.specs.Onto.{cellLine, rowLines}

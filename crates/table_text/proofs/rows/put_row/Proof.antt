@@ -9,7 +9,7 @@ use lib.ListN.{length, take, drop}
 use Rattle.rules.specs.Folds.{flat}
 use Rattle.rules.specs.Layout.{cellOf}
 use Rattle.rules.specs.Sheet.{cellText}
-use Rattle.parts.proofs.Walk.{lent-length}
+use Rattle.grid.proofs.Places.{lent-length}
 use Rattle.logs.proofs.Steps.{Through, through-start, through-room, through-lent, through-turn, lent-rows}
 use Rattle.table_text.specs.Onto.{cellLine}
 use Rattle.table_text.proofs.Writing.{Writing, back, fits-last, last, parts-start, parts-next, parts-end}

@@ -1,0 +1,4 @@
+pub mod Places
+pub mod Reading
+pub mod Walk
+pub mod Flat
