@@ -35,7 +35,8 @@ use Rattle.building.proofs.RowsInUse.{rows-length, rows-rest, rows-agai
 use Rattle.building.proofs.Marking.{marks-length, marks-next}
 
 -- Equal cells are marked alike.
-pub marked-cells : {n τ : ℕ} {body : List ℕ} {T U : Cells} {L : ℕ → List ℕ} → Marked n τ body T L → ((x y : ℕ) → x < n → y < n → T x y ≡ U x y) → Marked n τ body U L
+pub marked-cells : {n τ : ℕ} {body : List ℕ} {T U : Cells} {L : ℕ → List ℕ} → Marked n τ body T L → ((x y : ℕ) → x < n → y < n → T x y ≡ U x y)
+    → Marked n τ body U L
 marked-cells {n} {τ} {body} {T} {U} {L} m f =
     record {
       long = m .long;
@@ -55,7 +56,9 @@ module _ {n τ : ℕ} (δ : ℕ) {body : List ℕ} (T : Cells) {L : ℕ → List
     where
       go : (x y : ℕ) → x < n → y < n → {b : Bool} → Outcome (y ≡ k .to) (y ≢ k .to) b → cond b (add δ T k x y) (T x y) ≡ add δ T k x y
       go x y h j (holds e) = refl
-      go x y h j (fails d) = sym (add-elsewhere δ T k x y d (λ i q. let a = r .early (k .to) y (r .legal .to-below) j i q in let b = r .sizes .δ-low in omega (arith, a .0)))
+      go x y h j (fails d) =
+          sym
+          (add-elsewhere δ T k x y d (λ i q. let a = r .early (k .to) y (r .legal .to-below) j i q in let b = r .sizes .δ-low in omega (arith, a .0)))
 
 module _ (n s δ : ℕ) (k : Contact) where
   -- At first nothing is added.
@@ -79,7 +82,8 @@ unfolding putLast
 put-length i [] = inr refl
 put-length i (j ∷ []) = go (leb (i .departure) (j .departure)) (leb (i .arrival) (j .arrival))
   where
-    go : (a b : Bool) → (length (cond a (j ∷ []) (cond b (i ∷ []) (j ∷ i ∷ []))) ≡ 1) ⊎ (length (cond a (j ∷ []) (cond b (i ∷ []) (j ∷ i ∷ []))) ≡ 1 + 1)
+    go : (a b : Bool)
+        → (length (cond a (j ∷ []) (cond b (i ∷ []) (j ∷ i ∷ []))) ≡ 1) ⊎ (length (cond a (j ∷ []) (cond b (i ∷ []) (j ∷ i ∷ []))) ≡ 1 + 1)
     go true b = inl refl
     go false true = inl refl
     go false false = inr refl
@@ -109,6 +113,7 @@ module _ (s : ℕ) {n δ u v t x : ℕ} {body : List ℕ} {T : Cells} {L : ℕ �
   s-is : s - 1 + 1 ≡ s
   s-is = omega (arith, r .sizes .τ-low)
 
+  -- Every cell is well formed.
   formed : (a b : ℕ) → a < n → b < n → WellFormedCell (s - 1) δ (addedBelow δ T k x a b)
   unfolding addedBelow
   formed a b ha hb = go (ltb a x && eqb b v)
@@ -121,17 +126,22 @@ module _ (s : ℕ) {n δ u v t x : ℕ} {body : List ℕ} {T : Cells} {L : ℕ �
   words : (a b : ℕ) → a < n → b < n → cellIn n s body a b ≡ markedWords (s - 1) L (a * n + b) (addedBelow δ T k x a b)
   words a b ha hb = ap (λ (q : ℕ). cellIn n q body a b) (sym s-is) ∙ m .cells a b ha hb
 
-  few : (a b : ℕ) → a < n → b < n → length (addedBelow δ T k x a b) + length (marks L (a * n + b) (length (addedBelow δ T k x a b)) (s - 1 - length (addedBelow δ T k x a b))) ≡ s - 1
+  -- Rows and marks fill a cell.
+  few : (a b : ℕ) → a < n → b < n
+      → length (addedBelow δ T k x a b) + length (marks L (a * n + b) (length (addedBelow δ T k x a b)) (s - 1 - length (addedBelow δ T k x a b))) ≡ s - 1
   few a b ha hb =
       let o = rows-suffice (s - 1) δ (addedBelow δ T k x a b) (formed a b ha hb) in
       omega (arith, marks-length L (a * n + b) (length (addedBelow δ T k x a b)) (s - 1 - length (addedBelow δ T k x a b)))
 
-  bounds : (a b : ℕ) → a < n → b < n → (i : Interval) → List·Memᴰ i (addedBelow δ T k x a b) → (1 ≤ i .departure) × (i .departure ≤ s - 1) × (i .arrival ≤ maxArrival)
+  -- The ends of its intervals.
+  bounds : (a b : ℕ) → a < n → b < n → (i : Interval) → List·Memᴰ i (addedBelow δ T k x a b)
+      → (1 ≤ i .departure) × (i .departure ≤ s - 1) × (i .arrival ≤ maxArrival)
   bounds a b ha hb i q =
       let o = formed a b ha hb .limits i q in
       let z = r .sizes in
       (o .departs, o .in-time, omega (arith, o .arrives, z .τ-high, z .δ-high))
 
+  -- Its words are rows in use and marks.
   in-use : (a b : ℕ) → a < n → b < n → InUse (cellIn n s body a b)
   in-use a b ha hb =
       let z = r .sizes in
@@ -141,7 +151,9 @@ module _ (s : ℕ) {n δ u v t x : ℕ} {body : List ℕ} {T : Cells} {L : ℕ �
 
   -- Every cell is as the functions on a cell ask.
   pub grid-in-use : Grid InUse n s body
-  grid-in-use = let z = r .sizes in record { few = z .n-high; long = m .long ∙ ap (λ (q : ℕ). n * n * q) s-is; short = omega (arith, z .τ-high); every = in-use }
+  grid-in-use =
+      let z = r .sizes in
+      record { few = z .n-high; long = m .long ∙ ap (λ (q : ℕ). n * n * q) s-is; short = omega (arith, z .τ-high); every = in-use }
 
   -- The cells of x that are read and written.
   pub source-cell : InUseCell n s body x u
@@ -179,23 +191,28 @@ module _ (s : ℕ) {n δ u v t x : ℕ} {body : List ℕ} {T : Cells} {L : ℕ �
       (latest-tick s t (T x u) (λ i q. let o = r .good .cells x u hx (r .legal .from-below) .limits i q in (o .departs, omega (arith, o .in-time))))
 
   -- With x added.
-  next : (body₁ : List ℕ) → Marked n (s - 1) body₁ (λ a b. cond (eqb a x && eqb b v) (add δ T k a b) (addedBelow δ T k x a b)) L → Marked n (s - 1) body₁ (addedBelow δ T k (x + 1)) L
+  next : (body₁ : List ℕ) → Marked n (s - 1) body₁ (λ a b. cond (eqb a x && eqb b v) (add δ T k a b) (addedBelow δ T k x a b)) L
+      → Marked n (s - 1) body₁ (addedBelow δ T k (x + 1)) L
   unfolding addedBelow
   next body₁ q = marked-cells q (λ a b ha hb. go a b (eq-outcome a x) (eq-outcome b v))
     where
-      go : (a b : ℕ) {p : Bool} {q : Bool} → Outcome (a ≡ x) (a ≢ x) p → Outcome (b ≡ v) (b ≢ v) q → cond (p && q) (add δ T k a b) (cond (ltb a x && q) (add δ T k a b) (T a b)) ≡ cond (ltb a (x + 1) && q) (add δ T k a b) (T a b)
+      go : (a b : ℕ) {p : Bool} {q : Bool} → Outcome (a ≡ x) (a ≢ x) p → Outcome (b ≡ v) (b ≢ v) q
+          → cond (p && q) (add δ T k a b) (cond (ltb a x && q) (add δ T k a b) (T a b)) ≡ cond (ltb a (x + 1) && q) (add δ T k a b) (T a b)
       go a b (holds e) (holds f) = rw (lt-ltb a (x + 1) (omega arith)) refl
       go a b (holds e) (fails f) = rw (le-ltb a x (omega arith), lt-ltb a (x + 1) (omega arith)) refl
       go a b {p} {q} (fails e) f = ap (λ (w : Bool). cond (w && q) (add δ T k a b) (T a b)) (same a e)
         where
           same : (a : ℕ) → a ≢ x → ltb a x ≡ ltb a (x + 1)
-          same a d = ⊎-elim (λ h. lt-ltb a x h ∙ sym (lt-ltb a (x + 1) (omega arith))) (λ h. le-ltb a x (omega arith) ∙ sym (le-ltb a (x + 1) (omega arith))) (apart a x d)
+          same a d =
+              ⊎-elim (λ h. lt-ltb a x h ∙ sym (lt-ltb a (x + 1) (omega arith))) (λ h. le-ltb a x (omega arith) ∙ sym (le-ltb a (x + 1) (omega arith)))
+              (apart a x d)
 
   -- Where the rule adds nothing to the cell of x, nothing need be written.
   pub for-unchanged : add δ T k x v ≡ T x v → Marked n (s - 1) body (addedBelow δ T k (x + 1)) L
   for-unchanged e = next body (marked-cells m (λ a b ha hb. go a b (eq-outcome a x) (eq-outcome b v)))
     where
-      go : (a b : ℕ) {p : Bool} {q : Bool} → Outcome (a ≡ x) (a ≢ x) p → Outcome (b ≡ v) (b ≢ v) q → addedBelow δ T k x a b ≡ cond (p && q) (add δ T k a b) (addedBelow δ T k x a b)
+      go : (a b : ℕ) {p : Bool} {q : Bool} → Outcome (a ≡ x) (a ≢ x) p → Outcome (b ≡ v) (b ≢ v) q
+          → addedBelow δ T k x a b ≡ cond (p && q) (add δ T k a b) (addedBelow δ T k x a b)
       go a b (holds f) (holds g) = ap₂ (λ (c d : ℕ). addedBelow δ T k x c d) f g ∙ own v ∙ sym e ∙ sym (ap₂ (λ (c d : ℕ). add δ T k c d) f g)
       go a b (holds f) (fails g) = refl
       go a b (fails f) g = refl
@@ -211,7 +228,9 @@ module _ (s : ℕ) {n δ u v t x : ℕ} {body : List ℕ} {T : Cells} {L : ℕ �
     -- No departure.
     pub for-no-departure : (w : ℕ) → w ≡ departing n s body u t x → w ≡ 0 → Marked n (s - 1) body (addedBelow δ T k (x + 1)) L
     unfolding putLastFrom
-    for-no-departure w e z = for-unchanged (column ∙ ap (λ (o : Option ℕ). putLastFrom o (t + δ) (T x v)) (none-of (departureOf T k x) ticks (sym departs-by-rule ∙ sym e ∙ z)))
+    for-no-departure w e z =
+        for-unchanged
+        (column ∙ ap (λ (o : Option ℕ). putLastFrom o (t + δ) (T x v)) (none-of (departureOf T k x) ticks (sym departs-by-rule ∙ sym e ∙ z)))
       where
         none-of : (o : Option ℕ) → Tick s o → orZero o ≡ 0 → o ≡ none
         none-of none q f = refl
@@ -255,7 +274,9 @@ module _ (s : ℕ) {n δ u v t x : ℕ} {body : List ℕ} {T : Cells} {L : ℕ �
           next (put s (x * n + v) new body)
           (record {
             long = put-kept s (x * n + v) new body new-long goal-inside ∙ m .long;
-            cells = λ a b ha hb. ap (λ (q : ℕ). take q (drop ((a * n + b) * q) (put s (x * n + v) new body))) s-is ∙ go a b ha hb (eq-outcome a x) (eq-outcome b v);
+            cells =
+                λ a b ha hb. ap (λ (q : ℕ). take q (drop ((a * n + b) * q) (put s (x * n + v) new body))) s-is
+                ∙ go a b ha hb (eq-outcome a x) (eq-outcome b v);
           })
         where
           c : Cell
@@ -287,9 +308,13 @@ module _ (s : ℕ) {n δ u v t x : ℕ} {body : List ℕ} {T : Cells} {L : ℕ �
               ∙ ap (withRows c) (behind-rows L (x * n + v) (s - 1) (T x v) (length c) grown rows-fit)
 
           new-long : length new ≡ s
-          new-long = ap length new-is ∙ rows-length c (marks L (x * n + v) (length c) (s - 1 - length c)) ∙ omega (arith, rows-fit, marks-length L (x * n + v) (length c) (s - 1 - length c))
+          new-long =
+              ap length new-is
+              ∙ rows-length c (marks L (x * n + v) (length c) (s - 1 - length c))
+              ∙ omega (arith, rows-fit, marks-length L (x * n + v) (length c) (s - 1 - length c))
 
-          old : (a b : ℕ) → a < n → b < n → a * n + b ≢ x * n + v → take s (drop ((a * n + b) * s) (put s (x * n + v) new body)) ≡ markedWords (s - 1) L (a * n + b) (addedBelow δ T k x a b)
+          old : (a b : ℕ) → a < n → b < n → a * n + b ≢ x * n + v
+              → take s (drop ((a * n + b) * s) (put s (x * n + v) new body)) ≡ markedWords (s - 1) L (a * n + b) (addedBelow δ T k x a b)
           old a b ha hb q = part-put-there s (x * n + v) new body new-long goal-inside (a * n + b) q ∙ words a b ha hb
 
           go : (a b : ℕ) → a < n → b < n → {p : Bool} {q : Bool} → Outcome (a ≡ x) (a ≢ x) p → Outcome (b ≡ v) (b ≢ v) q
@@ -304,7 +329,8 @@ module _ (s : ℕ) {n δ u v t x : ℕ} {body : List ℕ} {T : Cells} {L : ℕ �
           go a b ha hb (fails i) o = old a b ha hb (λ q. i (number-same n a b x v hb hv q .0))
 
       -- The same, with the words as a caller gets them back.
-      pub for-given-back : (at : ℕ) → at ≡ (x * n + v) * s → (lent new : List ℕ) → lent ≡ cellIn n s body x v → new ≡ putWords (interval w (t + δ)) lent
+      pub for-given-back : (at : ℕ) → at ≡ (x * n + v) * s → (lent new : List ℕ) → lent ≡ cellIn n s body x v
+          → new ≡ putWords (interval w (t + δ)) lent
           → Marked n (s - 1) (take at body ++ (new ++ drop (at + s - at) (drop at body))) (addedBelow δ T k (x + 1)) L
       for-given-back at o lent new f g =
           let q : s ≡ at + s - at = omega arith in

@@ -34,7 +34,8 @@ module _ (s k : ℕ) (new l : List ℕ) (n-long : length new ≡ s) (inside : k 
 
   -- The part that was replaced.
   pub part-put-here : part s k (put s k new l) ≡ new
-  part-put-here = ap (take s) (drop-at (take (k * s) l) (new ++ drop s (drop (k * s) l)) (k * s) front) ∙ take-at new (drop s (drop (k * s) l)) s n-long
+  part-put-here =
+      ap (take s) (drop-at (take (k * s) l) (new ++ drop s (drop (k * s) l)) (k * s) front) ∙ take-at new (drop s (drop (k * s) l)) s n-long
 
   -- Any other part is as it was.
   pub part-put-there : (j : ℕ) → j ≢ k → part s j (put s k new l) ≡ part s j l
@@ -114,6 +115,7 @@ pub record PairOf (n c : ℕ) : Type 0 where
   pub to-below : c % n < n
   pub number : c / n * n + c % n ≡ c
 
+-- Both lie below n, and the number is theirs.
 pub pair-of : (n c : ℕ) → c < n * n → PairOf n c
 pair-of n c h = record { from-below = go (decLe n (c / n)); to-below = mod-lt c {m = n} low; number = div-add-mod' c n }
   where

@@ -36,7 +36,8 @@ module _ (c : Cell) (rest : List ℕ) where
   rows-rest = rw (add-one (length c)) (drop-at (map intervalWord c) rest (length c) (length-map c intervalWord))
 
   -- The words of no more intervals than a cell has rows, none arriving past the last arrival, say these intervals.
-  pub rows-again : length c ≤ maxTicks → ((i : Interval) → List·Memᴰ i c → (i .departure ≤ maxArrival) × (i .arrival ≤ maxArrival)) → cellOf (withRows c rest) ≡ c
+  pub rows-again : length c ≤ maxTicks → ((i : Interval) → List·Memᴰ i c → (i .departure ≤ maxArrival) × (i .arrival ≤ maxArrival))
+      → cellOf (withRows c rest) ≡ c
   unfolding cellOf withRows
   rows-again l f =
       ap (λ (k : ℕ). map intervalOf (take k (map intervalWord c ++ rest))) (rowsOf-word (length c) (omega arith))
@@ -60,7 +61,8 @@ module _ (c : Cell) (rest : List ℕ) where
       again : cellOf (withRows c rest) ≡ c
       again = rows-again (omega arith) (λ i m. omega (arith, f i m))
 
-      each : (i : Interval) → List·Memᴰ i (cellOf (withRows c rest)) → (1 ≤ i .departure) × (i .departure ≤ length c + length rest) × (i .arrival ≤ maxArrival)
+      each : (i : Interval) → List·Memᴰ i (cellOf (withRows c rest))
+          → (1 ≤ i .departure) × (i .departure ≤ length c + length rest) × (i .arrival ≤ maxArrival)
       each i m = f i (subst (λ (d : Cell). List·Memᴰ i d) again m)
 
 -- The count word says how many rows are in use.
@@ -149,7 +151,8 @@ module _ (t : ℕ) {n : ℕ} {xs : List ℕ} (p : Counted n xs) where
   pub latest-last : n ≢ 0 → get arrivalField (getD xs n 0) ≤ t → get departureField (getD xs n 0) ≡ orZero (latestDeparture (cellOf xs) t)
   latest-last = go n (p .rows)
     where
-      go : (n : ℕ) → n ≡ length (cellOf xs) → n ≢ 0 → get arrivalField (getD xs n 0) ≤ t → get departureField (getD xs n 0) ≡ orZero (latestDeparture (cellOf xs) t)
+      go : (n : ℕ) → n ≡ length (cellOf xs) → n ≢ 0 → get arrivalField (getD xs n 0) ≤ t
+          → get departureField (getD xs n 0) ≡ orZero (latestDeparture (cellOf xs) t)
       go zero q z h = absurd (z refl)
       go (suc k) q z h =
           let l : length (cellOf xs) ≡ k + 1 = omega arith in

@@ -26,7 +26,8 @@ goal : (c : tie.Else2) → let a = start (other (c .before)) .args in InUseCell 
 goal c = let g = start (other (c .before)) .pre in goal-cell _ (g .1) (g .0 .can-append) (g .0 .marked)
 
 -- It ends inside the words.
-inside : (c : tie.After-start) → let a = start (other (c .before .before)) .args in (c .start .result + a .size ≤ length (a .body .now)) × (a .size ≤ maxCellWords)
+inside : (c : tie.After-start)
+    → let a = start (other (c .before .before)) .args in (c .start .result + a .size ≤ length (a .body .now)) × (a .size ≤ maxCellWords)
 inside c =
     let g = start (other (c .before .before)) .pre in
     (omega (arith, c .start .ensures, goal-inside _ (g .1) (g .0 .can-append) (g .0 .marked)), goal (c .before) .grid .short)

@@ -19,7 +19,8 @@ abbrev read : tie.After-mark-arg2 → tie.After-tick-of
 read c = c .before .before
 
 -- The fields read are those of the word's contact.
-fields : (c : tie.After-tick-of) → contact (c .before .before .from-of .result) (c .before .to-of .result) (c .tick-of .result) ≡ contactOf (start c .args .w)
+fields : (c : tie.After-tick-of)
+    → contact (c .before .before .from-of .result) (c .before .to-of .result) (c .tick-of .result) ≡ contactOf (start c .args .w)
 fields c = contact-of-fields _ _ _ _ (c .before .before .from-of .ensures) (c .before .to-of .ensures) (c .tick-of .ensures)
 
 -- Its row can be marked.
