@@ -1,17 +1,15 @@
--- One part of a list replaced: what becomes of that part and of the others.
+-- One part of a list replaced, and the numbers of cells.
 use mathlib.Core.Path.{_≡_, refl, sym, ap, ap₂, _∙_, subst}
 use mathlib.Core.Logic.{_≢_, _⊎_, inl, inr}
 use mathlib.Core.List.{List, [], _∷_, _++_, append-assoc}
-use Prim.Native.Nat.{ℕ, zero, suc, _+_, _-_, _*_, _≤_, _<_}
-use native.Mathlib.Nat.{mul-le-mul}
-use native.Mathlib.Decide.{ℕ-discrete}
+use Prim.Native.Nat.{ℕ, zero, suc, _+_, _-_, _*_, _/_, _%_, _≤_, _<_}
+use native.Mathlib.Nat.{mul-le-mul-right, mod-lt, div-add-mod'}
+use native.Mathlib.Decide.{ℕ-discrete, decLe}
 use native.Mathlib.Omega.{arith}
 use lib.ListN.{length, getD, take, drop, set, length-append, length-drop, length-set, take-append-drop}
 use lib.Seq.{length-take-le, take-at, drop-at, take-append-le, drop-append-le, take-take, drop-drop, take-add, set-split, getD-take, getD-drop}
 use Rattle.grid.specs.Parts.{part, put}
-use Rattle.grid.specs.Cells.{cellIn}
-use Rattle.grid.proofs.Places.{part-inside, next-part}
-use Rattle.rules.specs.Limits.{maxAnimals, maxCells}
+use Rattle.grid.proofs.Places.{part-inside, part-length}
 
 -- Of two different numbers one is below.
 pub apart : (j k : ℕ) → j ≢ k → (j < k) ⊎ (k < j)
@@ -36,7 +34,8 @@ module _ (s k : ℕ) (new l : List ℕ) (n-long : length new ≡ s) (inside : k 
 
   -- The part that was replaced.
   pub part-put-here : part s k (put s k new l) ≡ new
-  part-put-here = ap (take s) (drop-at (take (k * s) l) (new ++ drop s (drop (k * s) l)) (k * s) front) ∙ take-at new (drop s (drop (k * s) l)) s n-long
+  part-put-here =
+      ap (take s) (drop-at (take (k * s) l) (new ++ drop s (drop (k * s) l)) (k * s) front) ∙ take-at new (drop s (drop (k * s) l)) s n-long
 
   -- Any other part is as it was.
   pub part-put-there : (j : ℕ) → j ≢ k → part s j (put s k new l) ≡ part s j l
@@ -76,7 +75,7 @@ module _ (s k : ℕ) (new l : List ℕ) (n-long : length new ≡ s) (inside : k 
 pub set-put : (s k : ℕ) (l : List ℕ) (i w : ℕ) → i < s → k * s + s ≤ length l → set l (k * s + i) w ≡ put s k (set (part s k l) i w) l
 set-put s k l i w h inside =
     let a = set-split l (k * s + i) w (omega arith) in
-    let p : length (part s k l) ≡ s = length-take-le s (drop (k * s) l) (omega (arith, length-drop (k * s) l)) in
+    let p : length (part s k l) ≡ s = part-length s k l inside in
     let b = set-split (part s k l) i w (omega arith) in
     let x : take (k * s + i) l ≡ take (k * s) l ++ take i (drop (k * s) l) = take-add (k * s) i l in
     let y : take i (part s k l) ≡ take i (drop (k * s) l) = take-take i s (drop (k * s) l) (omega arith) in
@@ -110,28 +109,23 @@ number-same n x y u v h k e = go (ℕ-discrete x u)
         other (inl l) = let r = part-inside x u n l in omega arith
         other (inr l) = let r = part-inside u x n l in omega arith
 
--- The number of a cell below n lies below n·n.
-pub number-below : (n x y : ℕ) → x < n → y < n → x * n + y < n * n
-number-below n x y h k = let r = part-inside x n n h in omega arith
+-- The animals of cell number c.
+pub record PairOf (n c : ℕ) : Type 0 where
+  pub from-below : c / n < n
+  pub to-below : c % n < n
+  pub number : c / n * n + c % n ≡ c
 
--- ---- where a cell lies
+-- Both lie below n, and the number is theirs.
+pub pair-of : (n c : ℕ) → c < n * n → PairOf n c
+pair-of n c h = record { from-below = go (decLe n (c / n)); to-below = mod-lt c {m = n} low; number = div-add-mod' c n }
+  where
+    low : 1 ≤ n
+    low = some n h
+      where
+        some : (n : ℕ) → c < n * n → 1 ≤ n
+        some zero q = absurd (omega arith)
+        some (suc n) q = omega arith
 
--- Cell (x, y) begins and ends inside the words, and is lent as it stands.
-pub record Lies (n s : ℕ) (body : List ℕ) (x y : ℕ) : Type 0 where
-  pub row : x * n ≤ maxCells
-  pub column : y < maxAnimals
-  pub inside : (x * n + y) * s + s ≤ length body
-  pub lent : take ((x * n + y) * s + s - (x * n + y) * s) (drop ((x * n + y) * s) body) ≡ cellIn n s body x y
-
--- The place of every cell of animals below n.
-pub lies : (n s : ℕ) (body : List ℕ) (x y : ℕ) → n ≤ maxAnimals → length body ≡ n * n * s → x < n → y < n → Lies n s body x y
-unfolding cellIn
-lies n s body x y few long h k =
-    let r : (x * n + y) * s + s - (x * n + y) * s ≡ s = omega arith in
-    let z : x ≤ maxAnimals = omega arith in
-    record {
-      row = mul-le-mul z few;
-      column = omega arith;
-      inside = omega (arith, part-inside (x * n + y) (n * n) s (number-below n x y h k));
-      lent = ap (λ (i : ℕ). take i (drop ((x * n + y) * s) body)) r;
-    }
+    go : Dec (n ≤ c / n) → c / n < n
+    go (yes q) = absurd (let w = mul-le-mul-right n q in omega (arith, div-add-mod' c n))
+    go (no q) = omega (arith, q)

@@ -1,3 +1,3 @@
-pub mod Last
+pub mod RowsInUse
 pub mod Marks
 pub mod Stage

@@ -1,13 +1,10 @@
 // One cell while it is built: rows in use, and marks behind them.
 ghost use mathlib.Core.Path.{_≡_};
-ghost use Prim.Native.Nat.{_+_, _≤_, _<_};
-ghost use lib.ListN.{length, drop};
 ghost use Rattle.journeys.specs.Journey.{interval};
 ghost use Rattle.journeys.specs.Cell.{latestDeparture};
-ghost use Rattle.rules.specs.Limits.{maxArrival};
 ghost use Rattle.rules.specs.Layout.{cellOf};
 ghost use Rattle.cells.specs.Stored.{orZero};
-ghost use Rattle.building.specs.Last.{putLast, withRows, InUse};
+ghost use Rattle.building.specs.RowsInUse.{putWords, InUse, CanPutLast};
 
 // The latest departure of the rows in use that arrives by t, or 0 where there is none, found by halves.
 fn search_departure(cell: &[u32], t: u32) -> u32
@@ -41,9 +38,8 @@ pub(crate) fn departure_by(cell: &[u32], t: u32) -> u32
 
 // Puts [d, a] at the end of the rows in use.
 pub(crate) fn append(cell: &mut [u32], d: u32, a: u32)
-    requires { ⌜ InUse (now cell) ⌝ }
-    requires { ⌜ (1 ≤ d) × (d < length (now cell)) × (a ≤ maxArrival) ⌝ }
-    ensures { λ _. ⌜ now (cell .exit) ≡ withRows (putLast (interval d a) (cellOf (now (cell .entry)))) (drop (length (putLast (interval d a) (cellOf (now (cell .entry)))) + 1) (now (cell .entry))) ⌝ }
+    requires { ⌜ CanPutLast d a (now cell) ⌝ }
+    ensures { λ _. ⌜ now (cell .exit) ≡ putWords (interval d a) (now (cell .entry)) ⌝ }
 {
     let last = words::rows_of(cell[0]) as usize;
     let w = words::interval_word(d, a);

@@ -22,7 +22,7 @@ use Rattle.rules.specs.Layout.{tableLength, animals, ticks}
 use Rattle.rules.specs.Reading.{isLog, between, isTrueEnd, isLegal, logWord, ensureLegal, ensureWords, readRefusal}
 use Rattle.rules.proofs.Folds.{and-left}
 use Rattle.cells.proofs.Checks.{stopped, passed}
-use Rattle.building.proofs.Filling.{contact-of-fields}
+use Rattle.building.proofs.MarkingContacts.{contact-of-fields}
 use Rattle.checks.specs.declared.Verdict.{Verdict}
 use Rattle.checks.specs.declared.Verdict.the-variants.{Passed, Refused}
 use Rattle.checks.specs.Verdicts.{verdictOf}

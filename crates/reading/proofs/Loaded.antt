@@ -27,7 +27,7 @@ use Rattle.rules.proofs.Fresh.{fresh-map, fresh-unique}
 use Rattle.rules.proofs.Runs.{run-fresh}
 use Rattle.rules.proofs.Reading.{read-iff}
 use Rattle.building.specs.Stage.{MarkedTable}
-use Rattle.building.proofs.Tabled.{opened-table}
+use Rattle.building.proofs.MarkedTables.{opened-table}
 use Rattle.reading.proofs.Checked.{lent-between}
 
 -- The count of an end word has 26 bits.

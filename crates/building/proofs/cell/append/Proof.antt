@@ -1,77 +1,105 @@
 -- `cell::append` meets its contract: a row more has room, since the departures are different ticks from 1 on, all below d.
---
 use borrow.Author.Needs.{needs}
 use Prim.Native.Nat.{_+_}
 use mathlib.Core.Logic.{⊎-elim}
 use lib.ListN.{length-set}
 use native.Mathlib.Omega.{arith}
-use Rattle.journeys.specs.Journey.{interval}
+use Rattle.journeys.specs.Journey.{Interval, interval}
 use Rattle.rules.specs.Layout.{cellOf}
-use Rattle.building.proofs.Appending.{Behind, rows-are, put-kept, put-over, put-more, behind-none, behind-last}
+use Rattle.building.proofs.RowsInUse.{Counted, counted}
+use Rattle.building.proofs.Appending.{Behind, put-kept, put-over, put-more, behind-none, behind-last}
 use Rattle.building.proofs.cell.append.Statement.{statement}
 use Rattle.building.proofs.cell.append.Tie as tie
 
-interval-word-requires : tie.Need-interval-word-requires
-interval-word-requires c κs = omega (arith, c .before .before .before .pre .0 .short)
+-- ---- the places
 
-mul-departure-of : tie.Need-mul-departure-of
-mul-departure-of c = omega (arith, rows-are (c .before .before .before .before .before .args .cell .now) (c .before .before .before .before .before .pre .0) (c .before .before .rows-of .result) (c .before .before .rows-of .ensures) (interval (c .before .before .before .before .before .args .d) (c .before .before .before .before .before .args .a)), c .before .before .before .before .before .pre .0 .fits, c .before .before .before .before .before .pre .0 .short)
+abbrev start : tie.After-rows-of → tie.Start
+start c = c .before .before .before
 
-slice-read-departure-of : tie.Need-slice-read-departure-of
-slice-read-departure-of c = omega (arith, rows-are (c .before .before .before .before .before .before .args .cell .now) (c .before .before .before .before .before .before .pre .0) (c .before .before .before .rows-of .result) (c .before .before .before .rows-of .ensures) (interval (c .before .before .before .before .before .before .args .d) (c .before .before .before .before .before .before .args .a)), c .before .before .before .before .before .before .pre .0 .fits, c .before .before .before .before .before .before .pre .0 .short)
+abbrev read : tie.Then1 → tie.After-rows-of
+read c = c .before .before
 
-returns : tie.Need-returns
-returns c = put-kept (c .before .before .before .before .before .before .before .before .args .cell .now) (c .before .before .before .before .before .before .before .before .pre .0) (c .before .before .before .before .before .rows-of .result) (c .before .before .before .before .before .rows-of .ensures) (interval (c .before .before .before .before .before .before .before .before .args .d) (c .before .before .before .before .before .before .before .before .args .a)) (omega arith) (omega (arith, c .before .departure-of .ensures))
+abbrev departing : tie.After-departure-of → tie.Then1
+departing c = c .before .before
 
-mul-arrival-of : tie.Need-mul-arrival-of
-mul-arrival-of c = omega (arith, rows-are (c .before .before .before .before .before .before .before .before .args .cell .now) (c .before .before .before .before .before .before .before .before .pre .0) (c .before .before .before .before .before .rows-of .result) (c .before .before .before .before .before .rows-of .ensures) (interval (c .before .before .before .before .before .before .before .before .args .d) (c .before .before .before .before .before .before .before .before .args .a)), c .before .before .before .before .before .before .before .before .pre .0 .fits, c .before .before .before .before .before .before .before .before .pre .0 .short)
+abbrev arriving : tie.After-arrival-of → tie.After-departure-of
+arriving c = c .before .before .before
 
-slice-read-arrival-of : tie.Need-slice-read-arrival-of
-slice-read-arrival-of c = omega (arith, rows-are (c .before .before .before .before .before .before .before .before .before .args .cell .now) (c .before .before .before .before .before .before .before .before .before .pre .0) (c .before .before .before .before .before .before .rows-of .result) (c .before .before .before .before .before .before .rows-of .ensures) (interval (c .before .before .before .before .before .before .before .before .before .args .d) (c .before .before .before .before .before .before .before .before .before .args .a)), c .before .before .before .before .before .before .before .before .before .pre .0 .fits, c .before .before .before .before .before .before .before .before .before .pre .0 .short)
+-- The rows in use are counted.
+rows : (c : tie.After-rows-of) → Counted (c .rows-of .result) (start c .args .cell .now)
+rows c = counted (start c .pre .in-use) (c .rows-of .ensures)
 
-mul-cell : tie.Need-mul-cell
-mul-cell c = omega (arith, rows-are (c .before .before .before .before .before .before .before .before .before .before .before .args .cell .now) (c .before .before .before .before .before .before .before .before .before .before .before .pre .0) (c .before .before .before .before .before .before .before .before .rows-of .result) (c .before .before .before .before .before .before .before .before .rows-of .ensures) (interval (c .before .before .before .before .before .before .before .before .before .before .before .args .d) (c .before .before .before .before .before .before .before .before .before .before .before .args .a)), c .before .before .before .before .before .before .before .before .before .before .before .pre .0 .fits, c .before .before .before .before .before .before .before .before .before .before .before .pre .0 .short)
+-- The interval to be put.
+abbrev new : tie.After-rows-of → Interval
+new c = interval (start c .args .d) (start c .args .a)
 
-slice-write-cell : tie.Need-slice-write-cell
-slice-write-cell c = omega (arith, rows-are (c .before .before .before .before .before .before .before .before .before .before .before .args .cell .now) (c .before .before .before .before .before .before .before .before .before .before .before .pre .0) (c .before .before .before .before .before .before .before .before .rows-of .result) (c .before .before .before .before .before .before .before .before .rows-of .ensures) (interval (c .before .before .before .before .before .before .before .before .before .before .before .args .d) (c .before .before .before .before .before .before .before .before .before .before .before .args .a)), c .before .before .before .before .before .before .before .before .before .before .before .pre .0 .fits, c .before .before .before .before .before .before .before .before .before .before .before .pre .0 .short)
-
-returns-2 : tie.Need-returns-2
-returns-2 c = put-over (c .before .before .before .before .before .before .before .before .before .before .before .args .cell .now) (c .before .before .before .before .before .before .before .before .before .before .before .pre .0) (c .before .before .before .before .before .before .before .before .rows-of .result) (c .before .before .before .before .before .before .before .before .rows-of .ensures) (interval (c .before .before .before .before .before .before .before .before .before .before .before .args .d) (c .before .before .before .before .before .before .before .before .before .before .before .args .a)) (omega arith) (omega (arith, c .before .before .before .before .departure-of .ensures)) (omega (arith, c .before .arrival-of .ensures)) _ (c .before .before .before .before .before .before .before .interval-word .ensures)
-
--- Where no way ended before, the interval goes behind all rows.
-behind : (c : tie.Joined1)
-    → Behind (interval (c .before .before .before .before .before .args .d) (c .before .before .before .before .before .args .a))
-    (cellOf (c .before .before .before .before .before .args .cell .now))
+-- Where no way has ended before, the interval goes behind all rows.
+behind : (c : tie.Joined1) → let r = c .before .before in Behind (new r) (cellOf (start r .args .cell .now))
 behind c =
     let r = c .before .before in
-    let s = r .before .before .before in
-    let n = r .rows-of .result in
-    let i = interval (s .args .d) (s .args .a) in
     ⊎-elim
-    (λ w. behind-last (s .args .cell .now) (s .pre .0) n (r .rows-of .ensures) i (w .0 .taken) (omega (arith, w .2 .ensures, w .3 .left)) (omega (arith, w .5 .ensures, w .6 .left)))
-    (λ w. behind-none (s .args .cell .now) (s .pre .0) n (r .rows-of .ensures) i (omega arith) (s .pre .1 .0))
+    (λ w. behind-last (rows r) (new r) (w .0 .taken) (omega (arith, w .2 .ensures, w .3 .left)) (omega (arith, w .5 .ensures, w .6 .left)))
+    (λ w. behind-none (rows r) (new r) (omega arith) (start r .pre .departs))
     (c .if1 .came)
 
+-- ---- the needs
+
+interval-word-requires : tie.Need-interval-word-requires
+interval-word-requires c κs = let g = start c .pre in omega (arith, g .in-time, g .arrives, g .in-use .short)
+
+mul-departure-of : tie.Need-mul-departure-of
+mul-departure-of c = let p = rows (read c) in omega arith
+
+slice-read-departure-of : tie.Need-slice-read-departure-of
+slice-read-departure-of c = let p = rows (read (c .before)) in omega arith
+
+returns : tie.Need-returns
+returns c = let r = read (departing (c .before)) in put-kept (rows r) (new r) (omega arith) (omega (arith, c .before .departure-of .ensures))
+
+mul-arrival-of : tie.Need-mul-arrival-of
+mul-arrival-of c = let p = rows (read (departing (c .before))) in omega arith
+
+slice-read-arrival-of : tie.Need-slice-read-arrival-of
+slice-read-arrival-of c = let p = rows (read (departing (c .before .before))) in omega arith
+
+mul-cell : tie.Need-mul-cell
+mul-cell c = let p = rows (read (departing (arriving (c .before)))) in omega arith
+
+slice-write-cell : tie.Need-slice-write-cell
+slice-write-cell c = let p = rows (read (departing (arriving (c .before)))) in omega arith
+
+returns-2 : tie.Need-returns-2
+returns-2 c =
+    let a = c .before in
+    let d = arriving a in
+    let r = read (departing d) in
+    put-over (rows r) (new r) (omega arith) (omega (arith, d .departure-of .ensures)) (omega (arith, a .arrival-of .ensures)) _ (departing d .before .interval-word .ensures)
+
 add-end : tie.Need-add-end
-add-end c = omega (arith, rows-are (c .before .before .before .before .before .args .cell .now) (c .before .before .before .before .before .pre .0) (c .before .before .rows-of .result) (c .before .before .rows-of .ensures) (interval (c .before .before .before .before .before .args .d) (c .before .before .before .before .before .args .a)), c .before .before .before .before .before .pre .0 .fits, c .before .before .before .before .before .pre .0 .short)
+add-end c = let p = rows (c .before .before) in omega arith
 
 mul-cell-2 : tie.Need-mul-cell-2
-mul-cell-2 c = let b = behind c in let s = c .before .before .before .before .before in omega (arith, b .few, s .pre)
+mul-cell-2 c = let p = rows (c .before .before) in omega arith
 
 slice-write-cell-2 : tie.Need-slice-write-cell-2
-slice-write-cell-2 c = omega (arith, (behind c) .few, rows-are (c .before .before .before .before .before .args .cell .now) (c .before .before .before .before .before .pre .0) (c .before .before .rows-of .result) (c .before .before .rows-of .ensures) (interval (c .before .before .before .before .before .args .d) (c .before .before .before .before .before .args .a)))
+slice-write-cell-2 c = let r = c .before .before in let p = rows r in omega (arith, behind c .few, start r .pre .in-time)
 
 cast-count-word : tie.Need-cast-count-word
-cast-count-word c = omega (arith, rows-are (c .before .before .before .before .before .args .cell .now) (c .before .before .before .before .before .pre .0) (c .before .before .rows-of .result) (c .before .before .rows-of .ensures) (interval (c .before .before .before .before .before .args .d) (c .before .before .before .before .before .args .a)), c .before .before .before .before .before .pre .0 .fits, c .before .before .before .before .before .pre .0 .short)
+cast-count-word c = let p = rows (c .before .before) in omega arith
 
 count-word-requires : tie.Need-count-word-requires
-count-word-requires c κs = omega (arith, rows-are (c .before .before .before .before .before .args .cell .now) (c .before .before .before .before .before .pre .0) (c .before .before .rows-of .result) (c .before .before .rows-of .ensures) (interval (c .before .before .before .before .before .args .d) (c .before .before .before .before .before .args .a)), c .before .before .before .before .before .pre .0 .fits, c .before .before .before .before .before .pre .0 .short)
+count-word-requires c κs = let p = rows (c .before .before) in omega arith
 
 slice-write-cell-3 : tie.Need-slice-write-cell-3
-slice-write-cell-3 c = omega (arith, length-set (c .before .before .before .before .before .before .args .cell .now) (c .before .before .before .rows-of .result + 1) (c .before .before .interval-word .result), c .before .before .before .before .before .before .pre .0 .fits)
+slice-write-cell-3 c =
+    let w = c .before .before in
+    let p = rows (w .before) in
+    omega (arith, length-set (start (w .before) .args .cell .now) (w .before .rows-of .result + 1) (w .interval-word .result))
 
 returns-3 : tie.Need-returns-3
-returns-3 c = put-more (c .before .before .before .before .before .before .args .cell .now) (c .before .before .before .before .before .before .pre .0) (c .before .before .before .rows-of .result) (c .before .before .before .rows-of .ensures) (interval (c .before .before .before .before .before .before .args .d) (c .before .before .before .before .before .before .args .a)) (behind (c .before)) (c .before .before .before .before .before .before .pre .1 .1) _ _ (c .before .before .interval-word .ensures) (c .count-word .ensures)
+returns-3 c =
+    let w = c .before .before in
+    put-more (rows (w .before)) (new (w .before)) (behind (c .before)) (start (w .before) .pre .in-time) _ _ (w .interval-word .ensures) (c .count-word .ensures)
 
 pub append-spec : {M : Type 1} → statement M
 append-spec =

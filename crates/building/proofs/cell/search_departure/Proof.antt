@@ -1,26 +1,36 @@
 -- `cell::search_departure` meets its contract: the row in front of the place that the search finds is the last that arrives by t.
---
 use borrow.Author.Needs.{needs}
 use Prim.Native.Nat.{_+_}
 use mathlib.Core.Path.{ap, _∙_}
 use native.Mathlib.Omega.{arith}
-use Rattle.building.proofs.Words.{count-is, lent-rising, Found, found-below, latest-zero, latest-word}
+use Rattle.building.proofs.RowsInUse.{Counted, counted, lent-rising, Found, found-below, latest-zero, latest-word}
 use Rattle.building.proofs.cell.search_departure.Statement.{statement}
 use Rattle.building.proofs.cell.search_departure.Tie as tie
 
-part-upper-bound-arrival-end : tie.Need-part-upper-bound-arrival-end
-part-upper-bound-arrival-end c = let s = c .before .before .before in omega (arith, c .rows-of .ensures, count-is (s .args .cell .now) (s .pre), s .pre .fits)
+-- ---- the places
 
-upper-bound-arrival-requires : tie.Need-upper-bound-arrival-requires
-upper-bound-arrival-requires c κs = let r = c .before in let s = r .before .before .before in lent-rising (s .args .cell .now) (r .rows-of .result + 1) (s .pre) (ap (λ m. m + 1) (r .rows-of .ensures))
+abbrev start : tie.After-rows-of → tie.Start
+start c = c .before .before .before
+
+-- The rows in use are counted.
+rows : (c : tie.After-rows-of) → Counted (c .rows-of .result) (start c .args .cell .now)
+rows c = counted (start c .pre) (c .rows-of .ensures)
 
 -- What the search found.
 found : (c : tie.After-upper-bound-arrival)
-    → Found (c .before .before .before .before .before .args .t) (c .before .before .before .before .before .args .cell .now)
-    (c .before .before .rows-of .result + 1) (c .upper-bound-arrival .result)
+    → let r = c .before .before in
+    Found (start r .args .t) (start r .args .cell .now) (r .rows-of .result + 1) (c .upper-bound-arrival .result)
 found c =
     let r = c .before .before in
-    record { in-use = r .before .before .before .pre; lent = ap (λ m. m + 1) (r .rows-of .ensures); place = c .upper-bound-arrival .ensures }
+    record { in-use = start r .pre; lent = ap (λ m. m + 1) (r .rows-of .ensures); place = c .upper-bound-arrival .ensures }
+
+-- ---- the needs
+
+part-upper-bound-arrival-end : tie.Need-part-upper-bound-arrival-end
+part-upper-bound-arrival-end c = let p = rows c in omega arith
+
+upper-bound-arrival-requires : tie.Need-upper-bound-arrival-requires
+upper-bound-arrival-requires c κs = let r = c .before in lent-rising _ (r .rows-of .result + 1) (start r .pre) (ap (λ m. m + 1) (r .rows-of .ensures))
 
 returns : tie.Need-returns
 returns c = latest-zero (found (c .before)) (omega arith)

@@ -16,7 +16,7 @@ use Rattle.journeys.proofs.Tests.{Outcome, holds, fails, le-outcome}
 use Rattle.journeys.proofs.Reach.{journey-limits}
 use Rattle.journeys.proofs.Theorems.{closure}
 use Rattle.cells.proofs.Search.{getD-member}
-use Rattle.building.specs.Last.{putLast, putLastFrom}
+use Rattle.building.specs.RowsInUse.{putLast, putLastFrom}
 
 -- ---- an interval that arrives last
 
@@ -26,7 +26,8 @@ unfolding enter hasInside withoutContaining putInOrder putLast
 enter-last i [] u f = refl
 enter-last i (j ∷ []) u f = go (le-outcome (i .departure) (j .departure)) (le-outcome (i .arrival) (j .arrival))
   where
-    go : {a b : Bool} → Outcome (i .departure ≤ j .departure) (j .departure < i .departure) a → Outcome (i .arrival ≤ j .arrival) (j .arrival < i .arrival) b
+    go : {a b : Bool} → Outcome (i .departure ≤ j .departure) (j .departure < i .departure) a
+        → Outcome (i .arrival ≤ j .arrival) (j .arrival < i .arrival) b
         → enter i (j ∷ []) ≡ putLast i (j ∷ [])
     go (holds h) o = rw (le-leb (i .departure) (j .departure) h, le-leb (j .arrival) (i .arrival) (f j (List·Memᴰ·head refl))) refl
     go (fails h) (holds l) =
@@ -68,7 +69,8 @@ earliest-past t [] f = refl
 earliest-past t (i ∷ c) f = rw (lt-leb t (i .departure) (f i (List·Memᴰ·head refl))) (earliest-past t c (λ j m. f j (List·Memᴰ·tail m)))
 
 -- A contact after which no journey goes on from its animal changes only the cells that end there.
-pub add-elsewhere : (δ : ℕ) (T : Cells) (k : Contact) (x y : ℕ) → y ≢ k .to → ((i : Interval) → List·Memᴰ i (T (k .to) y) → i .departure < k .tick + δ)
+pub add-elsewhere : (δ : ℕ) (T : Cells) (k : Contact) (x y : ℕ) → y ≢ k .to
+    → ((i : Interval) → List·Memᴰ i (T (k .to) y) → i .departure < k .tick + δ)
     → add δ T k x y ≡ T x y
 unfolding add arrivalOf enterBoth
 add-elsewhere δ T k x y n f =

@@ -28,6 +28,10 @@ putLastFrom (some d) a c = putLast (interval d a) c
 unfoldable pub withRows : Cell → List ℕ → List ℕ
 withRows c rest = countWord (length c) ∷ (map intervalWord c ++ rest)
 
+-- The words after the interval was put at the end of the rows in use.
+abbrev pub putWords : Interval → List ℕ → List ℕ
+putWords i xs = withRows (putLast i (cellOf xs)) (drop (length (putLast i (cellOf xs)) + 1) xs)
+
 -- The words are a count, rising rows with departures from 1 to the number of rows and ends of 11 bits, and whatever
 -- stands behind them.
 pub record InUse (xs : List ℕ) : Type 0 where
@@ -38,3 +42,10 @@ pub record InUse (xs : List ℕ) : Type 0 where
   pub departs : (i : Interval) → List·Memᴰ i (cellOf xs) → 1 ≤ i .departure
   pub in-time : (i : Interval) → List·Memᴰ i (cellOf xs) → i .departure < length xs
   pub arrives : (i : Interval) → List·Memᴰ i (cellOf xs) → i .arrival ≤ maxArrival
+
+-- The interval [d, a] can be put at the end of the rows in use.
+pub record CanPutLast (d a : ℕ) (xs : List ℕ) : Type 0 where
+  pub in-use : InUse xs
+  pub departs : 1 ≤ d
+  pub in-time : d < length xs
+  pub arrives : a ≤ maxArrival

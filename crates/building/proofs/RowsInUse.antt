@@ -2,7 +2,7 @@
 use mathlib.Core.Path.{_≡_, refl, sym, ap, subst, _∙_}
 use mathlib.Core.Logic.{_≢_, ⊎-elim}
 use mathlib.Core.List.{List, [], _∷_, _++_, map, List·Memᴰ, List·Memᴰ·head, List·Memᴰ·tail, List·Memᴰ·cases-cons, List·Memᴰ·not-nil}
-use Prim.Native.Nat.{ℕ, zero, suc, _+_, _-_, _≤_, _<_}
+use Prim.Native.Nat.{ℕ, zero, suc, _+_, _-_, _*_, _≤_, _<_}
 use native.Mathlib.Nat.{le-of-eq}
 use native.Mathlib.Numerals.{add-one}
 use native.Mathlib.Omega.{arith}
@@ -14,13 +14,13 @@ use Rattle.journeys.specs.Cell.{Cell, Rising, latestDeparture}
 use Rattle.words.specs.Layout.{get}
 use Rattle.words.specs.Words.{rowsField, departureField, arrivalField, intervalWord, intervalOf}
 use Rattle.words.proofs.Packed.{intervalOf-word, rowsOf-word}
-use Rattle.rules.specs.Limits.{maxTicks, maxArrival}
+use Rattle.rules.specs.Limits.{maxTicks, maxArrival, maxCellWords}
 use Rattle.rules.specs.Layout.{cellOf}
 use Rattle.rules.proofs.Folds.{map-back}
 use Rattle.cells.specs.Stored.{departureEnd, arrivalEnd, frontBelow, orZero}
 use Rattle.cells.proofs.Search.{front-length, latest-none, latest-some}
 use Rattle.cells.proofs.Lent.{lent-is, row-is}
-use Rattle.building.specs.Last.{withRows, InUse}
+use Rattle.building.specs.RowsInUse.{withRows, InUse}
 
 -- ---- what the words say
 
@@ -36,7 +36,8 @@ module _ (c : Cell) (rest : List ℕ) where
   rows-rest = rw (add-one (length c)) (drop-at (map intervalWord c) rest (length c) (length-map c intervalWord))
 
   -- The words of no more intervals than a cell has rows, none arriving past the last arrival, say these intervals.
-  pub rows-again : length c ≤ maxTicks → ((i : Interval) → List·Memᴰ i c → (i .departure ≤ maxArrival) × (i .arrival ≤ maxArrival)) → cellOf (withRows c rest) ≡ c
+  pub rows-again : length c ≤ maxTicks → ((i : Interval) → List·Memᴰ i c → (i .departure ≤ maxArrival) × (i .arrival ≤ maxArrival))
+      → cellOf (withRows c rest) ≡ c
   unfolding cellOf withRows
   rows-again l f =
       ap (λ (k : ℕ). map intervalOf (take k (map intervalWord c ++ rest))) (rowsOf-word (length c) (omega arith))
@@ -60,13 +61,26 @@ module _ (c : Cell) (rest : List ℕ) where
       again : cellOf (withRows c rest) ≡ c
       again = rows-again (omega arith) (λ i m. omega (arith, f i m))
 
-      each : (i : Interval) → List·Memᴰ i (cellOf (withRows c rest)) → (1 ≤ i .departure) × (i .departure ≤ length c + length rest) × (i .arrival ≤ maxArrival)
+      each : (i : Interval) → List·Memᴰ i (cellOf (withRows c rest))
+          → (1 ≤ i .departure) × (i .departure ≤ length c + length rest) × (i .arrival ≤ maxArrival)
       each i m = f i (subst (λ (d : Cell). List·Memᴰ i d) again m)
 
 -- The count word says how many rows are in use.
 pub count-is : (xs : List ℕ) → InUse xs → get rowsField (getD xs 0 0) ≡ length (cellOf xs)
 unfolding withRows
 count-is xs s = ap (λ (l : List ℕ). get rowsField (getD l 0 0)) (s .words) ∙ rowsOf-word (length (cellOf xs)) (omega (arith, s .fits, s .short))
+
+-- The words of a cell of which n rows are in use.
+pub record Counted (n : ℕ) (xs : List ℕ) : Type 0 where
+  pub in-use : InUse xs
+  pub rows : n ≡ length (cellOf xs)
+  pub fits : n < length xs
+  pub short : length xs ≤ maxCellWords
+
+-- The count word has been read.
+pub counted : {n : ℕ} {xs : List ℕ} → InUse xs → n ≡ get rowsField (getD xs 0 0) → Counted n xs
+counted {n} {xs} s e =
+    record { in-use = s; rows = e ∙ count-is xs s; fits = omega (arith, count-is xs s, s .fits); short = s .short }
 
 -- ---- the latest departure
 
@@ -127,28 +141,23 @@ unfolding frontBelow
 all-below m [] f = refl
 all-below m (i ∷ c) f = rw (lt-ltb (i .arrival) m (f i (List·Memᴰ·head refl))) (ap suc (all-below m c (λ j q. f j (List·Memᴰ·tail q))))
 
-module _ (t : ℕ) (xs : List ℕ) (s : InUse xs) (n : ℕ) (e : n ≡ get rowsField (getD xs 0 0)) where
-  -- The last row stands within the cell.
-  pub last-below : n < length xs
-  last-below = omega (arith, count-is xs s, s .fits)
-
+module _ (t : ℕ) {n : ℕ} {xs : List ℕ} (p : Counted n xs) where
   -- No rows, no departure.
   pub latest-empty : n ≡ 0 → 0 ≡ orZero (latestDeparture (cellOf xs) t)
-  latest-empty z = ap orZero (sym (latest-none t (cellOf xs) (s .rising) (none (cellOf xs) (omega (arith, count-is xs s)))))
-    where
-      none : (c : Cell) → length c ≡ 0 → frontBelow arrivalEnd (t + 1) c ≡ 0
-      none c q = omega (arith, front-length arrivalEnd (t + 1) c)
+  latest-empty z =
+      ap orZero (sym (latest-none t (cellOf xs) (p .in-use .rising) (omega (arith, p .rows, front-length arrivalEnd (t + 1) (cellOf xs)))))
 
   -- Where the last row arrives by t, its departure is the latest.
   pub latest-last : n ≢ 0 → get arrivalField (getD xs n 0) ≤ t → get departureField (getD xs n 0) ≡ orZero (latestDeparture (cellOf xs) t)
-  latest-last z h = go n e z h
+  latest-last = go n (p .rows)
     where
-      go : (n : ℕ) → n ≡ get rowsField (getD xs 0 0) → n ≢ 0 → get arrivalField (getD xs n 0) ≤ t → get departureField (getD xs n 0) ≡ orZero (latestDeparture (cellOf xs) t)
+      go : (n : ℕ) → n ≡ length (cellOf xs) → n ≢ 0 → get arrivalField (getD xs n 0) ≤ t
+          → get departureField (getD xs n 0) ≡ orZero (latestDeparture (cellOf xs) t)
       go zero q z h = absurd (z refl)
       go (suc k) q z h =
-          let l : length (cellOf xs) ≡ k + 1 = omega (arith, count-is xs s) in
+          let l : length (cellOf xs) ≡ k + 1 = omega arith in
           let r = row-is xs k (omega arith) in
           let a : getD (cellOf xs) k (intervalOf 0) .arrival ≤ t = subst (λ (i : ℕ). i ≤ t) (sym (ap arrivalEnd r ∙ ap (λ (i : ℕ). get arrivalField (getD xs i 0)) (add-one k))) h in
-          let b = all-below (t + 1) (cellOf xs) (λ i m. let w = last-latest (cellOf xs) (intervalOf 0) k (s .rising) l i m in omega arith) in
+          let b = all-below (t + 1) (cellOf xs) (λ i m. let w = last-latest (cellOf xs) (intervalOf 0) k (p .in-use .rising) l i m in omega arith) in
           let f : frontBelow arrivalEnd (t + 1) (cellOf xs) ≡ suc k = omega (arith, b, l) in
-          sym (ap orZero (latest-some t (cellOf xs) k (intervalOf 0) (s .rising) f) ∙ ap departureEnd r ∙ ap (λ (i : ℕ). get departureField (getD xs i 0)) (add-one k))
+          sym (ap orZero (latest-some t (cellOf xs) k (intervalOf 0) (p .in-use .rising) f) ∙ ap departureEnd r ∙ ap (λ (i : ℕ). get departureField (getD xs i 0)) (add-one k))
