@@ -27,7 +27,7 @@ use Rattle.rules.proofs.Folds.{and-left, and-right}
 use Rattle.rules.proofs.Demand1.{demand1}
 use Rattle.rules.proofs.LogsRead.{read-held}
 use Rattle.cells.proofs.Checks.{stopped, passed}
-use Rattle.table_text.specs.Onto.{onto}
+use Rattle.table_text.specs.Lines.{overwriteFront}
 use Rattle.table_text.proofs.Lengths.{sheet-fits}
 use Rattle.sheet_text.specs.Prints.{Prints}
 use Rattle.sheet_text.proofs.Words.{words-length}
@@ -130,8 +130,8 @@ module _ (L T : List ℕ) (g : Prints L T) (x : ReadAnswer) (e : x ≡ readAnswe
 -- ---- one text for another
 
 -- What was written of a text was written of an equal one.
-pub put-as : (s t out new : List ℕ) (k : ℕ) → s ≡ t → k ≡ length t → new ≡ onto t out → (k ≡ length s) × (new ≡ onto s out)
-put-as s t out new k e f g = (f ∙ ap length (sym e), g ∙ ap (λ (x : List ℕ). onto x out) (sym e))
+pub put-as : (s t out new : List ℕ) (k : ℕ) → s ≡ t → k ≡ length t → new ≡ overwriteFront t out → (k ≡ length s) × (new ≡ overwriteFront s out)
+put-as s t out new k e f g = (f ∙ ap length (sym e), g ∙ ap (λ (x : List ℕ). overwriteFront x out) (sym e))
 
 -- What has room for a text has room for an equal one.
 pub room-as : (s t out : List ℕ) → s ≡ t → length s ≤ length out → length t ≤ length out
@@ -172,13 +172,13 @@ module _ (B : List ℕ) (h : length B ≤ 16384) where
   sheet-words d = rw (le-ltb mostBytes (length B) h, eq-eqb (length B % 4) 0 d) refl
 
 -- The words of whole words, taken back from where they were written.
-pub words-lent : (B l out : List ℕ) (k : ℕ) → length B % 4 ≡ 0 → k ≡ length B / 4 → out ≡ onto (wordsOf B) l → take k out ≡ wordsOf B
-unfolding onto
+pub words-lent : (B l out : List ℕ) (k : ℕ) → length B % 4 ≡ 0 → k ≡ length B / 4 → out ≡ overwriteFront (wordsOf B) l → take k out ≡ wordsOf B
+unfolding overwriteFront
 words-lent B l out k d e f = ap (take k) f ∙ take-at (wordsOf B) (drop (length (wordsOf B)) l) k (words-length B d ∙ sym e)
 
 -- The text that is shown lies inside its bytes.
-pub shown-inside : (B text : List ℕ) (k : ℕ) → k ≡ length (sheetText B) → text ≡ onto (sheetText B) (replicate {A = ℕ} 32768 0) → (k ≤ length text) × (k ≡ length (take k text))
-unfolding onto
+pub shown-inside : (B text : List ℕ) (k : ℕ) → k ≡ length (sheetText B) → text ≡ overwriteFront (sheetText B) (replicate {A = ℕ} 32768 0) → (k ≤ length text) × (k ≡ length (take k text))
+unfolding overwriteFront
 shown-inside B text k e f =
     let h = sheet-fits B in
     let n = length-append (sheetText B) (drop (length (sheetText B)) (replicate {A = ℕ} 32768 0)) in

@@ -6,7 +6,7 @@ ghost use mathlib.Core.Path.{_≡_};
 ghost use Prim.Native.Nat.{_≤_};
 ghost use lib.ListN.{length, replicate};
 ghost use Rattle.rules.specs.Sheet.{sheetText};
-ghost use Rattle.table_text.specs.Onto.{onto};
+ghost use Rattle.table_text.specs.Lines.{overwriteFront};
 
 // A text and its length; behind it the bytes are 0.
 pub struct Sheet {
@@ -32,7 +32,7 @@ fn blank_log() -> [u32; 4096]
 fn put_sheet(bytes: &[u8], out: &mut [u8]) -> usize
     requires { ⌜ length (sheetText (now bytes)) ≤ length (now out) ⌝ }
     ensures { λ r. ⌜ r ≡ length (sheetText (now (bytes .entry))) ⌝ }
-    ensures { λ _. ⌜ now (out .exit) ≡ onto (sheetText (now (bytes .entry))) (now (out .entry)) ⌝ }
+    ensures { λ _. ⌜ now (out .exit) ≡ overwriteFront (sheetText (now (bytes .entry))) (now (out .entry)) ⌝ }
 {
     if bytes.len() > 16384 {
         return print::put_bytes(b"too large\n", out);
@@ -49,7 +49,7 @@ fn put_sheet(bytes: &[u8], out: &mut [u8]) -> usize
 // The text that is printed for the bytes.
 pub fn sheet_text(bytes: &[u8]) -> Sheet
     ensures { λ r. ⌜ r .length ≡ length (sheetText (now (bytes .entry))) ⌝ }
-    ensures { λ r. ⌜ r .text ≡ onto (sheetText (now (bytes .entry))) (replicate 32768 0) ⌝ }
+    ensures { λ r. ⌜ r .text ≡ overwriteFront (sheetText (now (bytes .entry))) (replicate 32768 0) ⌝ }
 {
     let mut text = blank_text();
     let length = put_sheet(bytes, &mut text);

@@ -6,7 +6,7 @@ ghost use lib.ListN.{length, replicate};
 ghost use Rattle.rules.specs.Layout.{tableLength, animals, ticks};
 ghost use Rattle.rules.specs.Reading.{isLog};
 ghost use Rattle.rules.specs.Sheet.{isBeyond, logText, tooLarge};
-ghost use Rattle.table_text.specs.Onto.{onto};
+ghost use Rattle.table_text.specs.Lines.{overwriteFront};
 ghost use Rattle.sheet_text.specs.Prints.{Prints};
 use rules::ReadAnswer;
 use tables::Opening;
@@ -15,7 +15,7 @@ use tables::Opening;
 pub(crate) fn put_bytes(text: &[u8], out: &mut [u8]) -> usize
     requires { ⌜ length (now text) ≤ length (now out) ⌝ }
     ensures { λ r. ⌜ r ≡ length (now (text .entry)) ⌝ }
-    ensures { λ _. ⌜ now (out .exit) ≡ onto (now (text .entry)) (now (out .entry)) ⌝ }
+    ensures { λ _. ⌜ now (out .exit) ≡ overwriteFront (now (text .entry)) (now (out .entry)) ⌝ }
 {
     for i in 0..text.len() {
         out[i] = text[i];
@@ -62,7 +62,7 @@ fn put_read(log: &[u32], table: &mut [u32], out: &mut [u8]) -> usize
     requires { ⌜ Prints (now log) (now table) ⌝ }
     requires { ⌜ length (logText (now log)) ≤ length (now out) ⌝ }
     ensures { λ r. ⌜ r ≡ length (logText (now (log .entry))) ⌝ }
-    ensures { λ _. ⌜ now (out .exit) ≡ onto (logText (now (log .entry))) (now (out .entry)) ⌝ }
+    ensures { λ _. ⌜ now (out .exit) ≡ overwriteFront (logText (now (log .entry))) (now (out .entry)) ⌝ }
 {
     let answer = engine::read_log(log, table);
     match answer {
@@ -82,7 +82,7 @@ fn blank_table() -> [u32; 4161]
 pub(crate) fn put_log(log: &[u32], out: &mut [u8]) -> usize
     requires { ⌜ length (cond (isBeyond (now log)) tooLarge (logText (now log))) ≤ length (now out) ⌝ }
     ensures { λ r. ⌜ r ≡ length (cond (isBeyond (now (log .entry))) tooLarge (logText (now (log .entry)))) ⌝ }
-    ensures { λ _. ⌜ now (out .exit) ≡ onto (cond (isBeyond (now (log .entry))) tooLarge (logText (now (log .entry)))) (now (out .entry)) ⌝ }
+    ensures { λ _. ⌜ now (out .exit) ≡ overwriteFront (cond (isBeyond (now (log .entry))) tooLarge (logText (now (log .entry)))) (now (out .entry)) ⌝ }
 {
     if is_beyond(log) {
         return put_bytes(b"too large\n", out);

@@ -16,8 +16,8 @@ use Rattle.rules.proofs.Folds.{flat-same}
 use Rattle.parts.specs.Parts.{part}
 use Rattle.tables.proofs.Rows.{part-of-row}
 use Rattle.logs.specs.Ordered.{rowsIn}
-use Rattle.logs.proofs.Written.{Read}
-use Rattle.table_text.specs.Onto.{cellLine, rowLines}
+use Rattle.logs.proofs.WholeLog.{Read}
+use Rattle.table_text.specs.Lines.{cellLine, linesFrom}
 
 -- ---- the rows of a cell
 
@@ -82,13 +82,13 @@ pub cell-lent : (s u v : ℕ) (row lent : List ℕ) → lent ≡ part s v row �
 unfolding cellLine
 cell-lent s u v row lent e = ap (λ (x : List ℕ). cellText u v (cellOf x)) (sym e)
 
-pub row-lent : (s n u : ℕ) (body lent : List ℕ) → lent ≡ part (n * s) u body → rowLines s n body u ≡ flat (cellLine s u lent) n
-unfolding rowLines
+pub row-lent : (s n u : ℕ) (body lent : List ℕ) → lent ≡ part (n * s) u body → linesFrom s n body u ≡ flat (cellLine s u lent) n
+unfolding linesFrom
 row-lent s n u body lent e = ap (λ (x : List ℕ). flat (cellLine s u x) n) (sym e)
 
 -- The lines of the rows are those of the cells.
-pub table-lines : (T : List ℕ) → flat (rowLines (ticks T + 1) (animals T) (drop 1 T)) (animals T) ≡ flat (λ u. flat (λ v. cellText u v (cellsOf T u v)) (animals T)) (animals T)
-unfolding rowLines cellLine cellsOf cellAt
+pub table-lines : (T : List ℕ) → flat (linesFrom (ticks T + 1) (animals T) (drop 1 T)) (animals T) ≡ flat (λ u. flat (λ v. cellText u v (cellsOf T u v)) (animals T)) (animals T)
+unfolding linesFrom cellLine cellsOf cellAt
 table-lines T =
     let n = animals T in
     let s = ticks T + 1 in
@@ -96,7 +96,7 @@ table-lines T =
 
 -- The first line and the lines of the rows are the text of the table, by its numbers as they were read.
 pub table-text : (T : List ℕ) {n s δ : ℕ} {L : List ℕ} (r : Read T n s δ L) (τ held : ℕ) → τ ≡ ticks T → held ≡ length (heldContacts T)
-    → firstLine n τ δ held ++ flat (rowLines s n L) n ≡ tableText T
+    → firstLine n τ δ held ++ flat (linesFrom s n L) n ≡ tableText T
 unfolding tableText
 table-text T r τ held e h =
     rw (r .animals-is, r .size-is, r .carry-is, r .lent-is, e, h) (ap (λ (l : List ℕ). firstLine (animals T) (ticks T) (carry T) (length (heldContacts T)) ++ l) (table-lines T))

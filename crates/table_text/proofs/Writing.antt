@@ -10,7 +10,7 @@ use lib.ListN.{length, take, drop, set, length-append, length-drop, take-append-
 use lib.Seq.{take-all, take-at, drop-at, drop-drop, sets, sets-eq, length-take-le}
 use Rattle.journeys.proofs.Tests.{Outcome, holds, fails, lt-outcome}
 use Rattle.rules.specs.Folds.{flat}
-use Rattle.table_text.specs.Onto.{onto}
+use Rattle.table_text.specs.Lines.{overwriteFront}
 
 -- Of the text `all` the part before `at` is written, and `rest` is left; from `at` on the list is as it was.
 pub record Writing (all l out : List ℕ) (at : ℕ) (rest : List ℕ) : Type 0 where
@@ -66,9 +66,9 @@ module _ {all l out : List ℕ} {at : ℕ} {rest : List ℕ} (w : Writing all l 
       }
 
   -- A piece is written by a callee that was lent the rest of the list.
-  pub piece : (new text more : List ℕ) (k : ℕ) → rest ≡ text ++ more → k ≡ length text → new ≡ onto text (take (length out - at) (drop at out))
+  pub piece : (new text more : List ℕ) (k : ℕ) → rest ≡ text ++ more → k ≡ length text → new ≡ overwriteFront text (take (length out - at) (drop at out))
       → Writing all l (back out at new) (at + k) more
-  unfolding onto
+  unfolding overwriteFront
   piece new text more k e i f =
       next _ text more k e i
       (ap₂ (λ (x y : List ℕ). take at out ++ (x ++ y)) (f ∙ ap₂ (λ (x : List ℕ) (j : ℕ). text ++ drop j x) lent (sym i)) (drop-of-length-le (drop at out) {i = length out - at} (omega (arith, length-drop at out)))
@@ -80,7 +80,7 @@ module _ {all l out : List ℕ} {at : ℕ} {rest : List ℕ} (w : Writing all l 
   pub fits-last : (text : List ℕ) → rest ≡ text → length text ≤ length (take (length out - at) (drop at out))
   fits-last text e = fits text [] (e ∙ sym (append-nil text))
 
-  pub last : (new text : List ℕ) (k : ℕ) → rest ≡ text → k ≡ length text → new ≡ onto text (take (length out - at) (drop at out)) → Writing all l (back out at new) (at + k) []
+  pub last : (new text : List ℕ) (k : ℕ) → rest ≡ text → k ≡ length text → new ≡ overwriteFront text (take (length out - at) (drop at out)) → Writing all l (back out at new) (at + k) []
   last new text k e i f = piece new text [] k (e ∙ sym (append-nil text)) i f
 
   -- Bytes are written one after the other.
@@ -91,8 +91,8 @@ module _ {all l out : List ℕ} {at : ℕ} {rest : List ℕ} (w : Writing all l 
   byte b more e = bytes (b ∷ []) more e
 
   -- At the end the text stands at the front of the list.
-  pub end : rest ≡ [] → (at ≡ length all) × (out ≡ onto all l)
-  unfolding onto
+  pub end : rest ≡ [] → (at ≡ length all) × (out ≡ overwriteFront all l)
+  unfolding overwriteFront
   end e =
       let h : take at out ≡ all = sym (append-nil (take at out)) ∙ ap (λ (x : List ℕ). take at out ++ x) (sym e) ∙ w .whole in
       let i : at ≡ length all = sym front ∙ ap length h in
@@ -103,7 +103,7 @@ module _ {all l out : List ℕ} {at : ℕ} {rest : List ℕ} (w : Writing all l 
   pub last-place : rest ≡ b ∷ [] → at + 1 ≡ length all
   last-place e = end (byte w b [] e) refl .0
 
-  pub last-byte : (x : ℕ) → rest ≡ b ∷ [] → x ≡ b → set out at x ≡ onto all l
+  pub last-byte : (x : ℕ) → rest ≡ b ∷ [] → x ≡ b → set out at x ≡ overwriteFront all l
   last-byte x e i = ap (set out at) i ∙ end (byte w b [] e) refl .1
 
 -- The first piece fits the whole list.
@@ -111,8 +111,8 @@ pub fits-whole : (all l text more : List ℕ) → text ++ more ≡ all → lengt
 fits-whole all l text more e h = omega (arith, ap length e, length-append text more)
 
 -- It is written by a callee that was lent the whole list.
-pub first : {all l : List ℕ} (new text more : List ℕ) (k : ℕ) → text ++ more ≡ all → k ≡ length text → new ≡ onto text l → length all ≤ length l → Writing all l new k more
-unfolding onto
+pub first : {all l : List ℕ} (new text more : List ℕ) (k : ℕ) → text ++ more ≡ all → k ≡ length text → new ≡ overwriteFront text l → length all ≤ length l → Writing all l new k more
+unfolding overwriteFront
 first {all} {l} new text more k e i f h =
     subst (λ (j : ℕ). Writing all l new j more) (zero-add k)
     (next (start all l (text ++ more) e h) new text more k refl i (f ∙ ap (λ (j : ℕ). text ++ drop j l) (sym i ∙ sym (zero-add k))))
@@ -155,5 +155,5 @@ module _ (f : ℕ → List ℕ) where
   parts-next n k w h i = rw (add-one k) (more (f k) w (omega (arith, flat-room n k h)))
 
   -- All parts are written.
-  pub parts-end : {l out : List ℕ} {at n k : ℕ} → Writing (flat f k) l out at [] → k ≡ n → (at ≡ length (flat f n)) × (out ≡ onto (flat f n) l)
-  parts-end {l} {out} {at} {n} {k} w e = subst (λ (i : ℕ). (at ≡ length (flat f i)) × (out ≡ onto (flat f i) l)) e (end w refl)
+  pub parts-end : {l out : List ℕ} {at n k : ℕ} → Writing (flat f k) l out at [] → k ≡ n → (at ≡ length (flat f n)) × (out ≡ overwriteFront (flat f n) l)
+  parts-end {l} {out} {at} {n} {k} w e = subst (λ (i : ℕ). (at ≡ length (flat f i)) × (out ≡ overwriteFront (flat f i) l)) e (end w refl)

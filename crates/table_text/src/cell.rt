@@ -6,13 +6,13 @@ ghost use Rattle.words.specs.Words.{intervalOf};
 ghost use Rattle.rules.specs.Layout.{cellOf};
 ghost use Rattle.rules.specs.Sheet.{intervalText, intervalsText, cellText};
 ghost use Rattle.logs.specs.Ordered.{rowsIn};
-ghost use Rattle.table_text.specs.Onto.{onto};
+ghost use Rattle.table_text.specs.Lines.{overwriteFront};
 
 // Writes the interval of a row, behind a space.
 fn put_interval(w: u32, out: &mut [u8]) -> usize
     requires { ⌜ length (intervalText (intervalOf w)) ≤ length (now out) ⌝ }
     ensures { λ r. ⌜ r ≡ length (intervalText (intervalOf w)) ⌝ }
-    ensures { λ _. ⌜ now (out .exit) ≡ onto (intervalText (intervalOf w)) (now (out .entry)) ⌝ }
+    ensures { λ _. ⌜ now (out .exit) ≡ overwriteFront (intervalText (intervalOf w)) (now (out .entry)) ⌝ }
 {
     out[0] = b' ';
     let at = 1 + crate::put_then(words::departure_of(w), b'-', &mut out[1..]);
@@ -24,7 +24,7 @@ fn put_intervals(cell: &[u32], out: &mut [u8]) -> usize
     requires { ⌜ rowsIn (now cell) < length (now cell) ⌝ }
     requires { ⌜ length (intervalsText (cellOf (now cell))) ≤ length (now out) ⌝ }
     ensures { λ r. ⌜ r ≡ length (intervalsText (cellOf (now (cell .entry)))) ⌝ }
-    ensures { λ _. ⌜ now (out .exit) ≡ onto (intervalsText (cellOf (now (cell .entry)))) (now (out .entry)) ⌝ }
+    ensures { λ _. ⌜ now (out .exit) ≡ overwriteFront (intervalsText (cellOf (now (cell .entry)))) (now (out .entry)) ⌝ }
 {
     let end = words::rows_of(cell[0]) as usize + 1;
     let mut at = 0;
@@ -39,7 +39,7 @@ pub(crate) fn put_cell(cell: &[u32], u: u32, v: u32, out: &mut [u8]) -> usize
     requires { ⌜ rowsIn (now cell) < length (now cell) ⌝ }
     requires { ⌜ length (cellText u v (cellOf (now cell))) ≤ length (now out) ⌝ }
     ensures { λ r. ⌜ r ≡ length (cellText u v (cellOf (now (cell .entry)))) ⌝ }
-    ensures { λ _. ⌜ now (out .exit) ≡ onto (cellText u v (cellOf (now (cell .entry)))) (now (out .entry)) ⌝ }
+    ensures { λ _. ⌜ now (out .exit) ≡ overwriteFront (cellText u v (cellOf (now (cell .entry)))) (now (out .entry)) ⌝ }
 {
     if words::rows_of(cell[0]) == 0 {
         return 0;

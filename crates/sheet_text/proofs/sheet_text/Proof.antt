@@ -5,7 +5,7 @@ use mathlib.Core.Path.{ap, _∙_}
 use native.Mathlib.Omega.{arith}
 use lib.ListN.{length, length-replicate}
 use Rattle.rules.specs.Sheet.{sheetText}
-use Rattle.table_text.specs.Onto.{onto}
+use Rattle.table_text.specs.Lines.{overwriteFront}
 use Rattle.table_text.proofs.Lengths.{sheet-fits}
 use Rattle.sheet_text.proofs.sheet_text.Statement.{statement}
 use Rattle.sheet_text.proofs.sheet_text.Tie as tie
@@ -20,7 +20,7 @@ put-sheet-requires : tie.Need-put-sheet-requires
 put-sheet-requires c κs = omega (arith, sheet-fits (c .before .before .before .args .bytes .now), ap length (c .before .blank-text .ensures), length-replicate {A = ℕ} 32768 0)
 
 returns : tie.Need-returns
-returns c = (c .before .put-sheet .ensures .0, c .before .put-sheet .ensures .1 ∙ ap (onto (sheetText (c .before .before .before .before .before .args .bytes .now))) (c .before .before .before .blank-text .ensures))
+returns c = (c .before .put-sheet .ensures .0, c .before .put-sheet .ensures .1 ∙ ap (overwriteFront (sheetText (c .before .before .before .before .before .args .bytes .now))) (c .before .before .before .blank-text .ensures))
 
 pub sheet-text-spec : {M : Type 1} → statement M
 sheet-text-spec =

@@ -8,8 +8,8 @@ use lib.ListN.{length, take, drop}
 use Rattle.rules.specs.Folds.{flat}
 use Rattle.rules.specs.Sheet.{firstLine, tableText}
 use Rattle.rules.proofs.Sound.{opens-length}
-use Rattle.logs.proofs.Written.{body-lent, Read, read-rows}
-use Rattle.table_text.specs.Onto.{rowLines}
+use Rattle.logs.proofs.WholeLog.{body-lent, Read, read-rows}
+use Rattle.table_text.specs.Lines.{linesFrom}
 use Rattle.table_text.proofs.Writing.{Writing, back, fits-whole, first, fits-last, last, end}
 use Rattle.table_text.proofs.Texts.{table-text}
 use Rattle.table_text.proofs.put_table.Statement.{statement}
@@ -48,7 +48,7 @@ text : (c : tie.After-carry-of)
     → let t = c .before in
     let a = t .before in
     let s = a .before .before .before .before .args in
-    firstLine (a .animals-of .result) (t .ticks-of .result) (c .carry-of .result) (s .held) ++ flat (rowLines (t .ticks-of .result + 1) (a .animals-of .result) (body (s .table .now))) (a .animals-of .result)
+    firstLine (a .animals-of .result) (t .ticks-of .result) (c .carry-of .result) (s .held) ++ flat (linesFrom (t .ticks-of .result + 1) (a .animals-of .result) (body (s .table .now))) (a .animals-of .result)
     ≡ tableText (s .table .now)
 text c =
     let t = c .before in
@@ -69,41 +69,41 @@ wrote1 : (c : tie.After-put-first-line)
     let a = t .before in
     let s = a .before .before .before .before .args in
     Writing (tableText (s .table .now)) (s .out .now) (c .put-first-line .last .1 .1 .1 .1 .0) (c .put-first-line .result)
-    (flat (rowLines (t .ticks-of .result + 1) (a .animals-of .result) (body (s .table .now))) (a .animals-of .result))
+    (flat (linesFrom (t .ticks-of .result + 1) (a .animals-of .result) (body (s .table .now))) (a .animals-of .result))
 wrote1 c =
     let r = c .before .before in
     let s = r .before .before .before .before .before .before in
     first _ _ _ _ (text r) (c .put-first-line .ensures .0) (c .put-first-line .ensures .1) (s .pre .1 .1)
 
-sub-put-rows : tie.Need-sub-put-rows
-sub-put-rows c = omega (arith, opened (c .before .before .before .before))
+sub-put-all-cells : tie.Need-sub-put-all-cells
+sub-put-all-cells c = omega (arith, opened (c .before .before .before .before))
 
-part-put-rows-start : tie.Need-part-put-rows-start
-part-put-rows-start c = omega (arith, opened (c .before .before .before .before))
+part-put-all-cells-start : tie.Need-part-put-all-cells-start
+part-put-all-cells-start c = omega (arith, opened (c .before .before .before .before))
 
-sub-put-rows-2 : tie.Need-sub-put-rows-2
-sub-put-rows-2 c = omega (arith, wrote1 (c .before .before .before) .room)
+sub-put-all-cells-2 : tie.Need-sub-put-all-cells-2
+sub-put-all-cells-2 c = omega (arith, wrote1 (c .before .before .before) .room)
 
-part-put-rows-start-2 : tie.Need-part-put-rows-start-2
-part-put-rows-start-2 c = omega (arith, wrote1 (c .before .before .before) .room)
+part-put-all-cells-start-2 : tie.Need-part-put-all-cells-start-2
+part-put-all-cells-start-2 c = omega (arith, wrote1 (c .before .before .before) .room)
 
-put-rows-requires : tie.Need-put-rows-requires
-put-rows-requires c κs =
+put-all-cells-requires : tie.Need-put-all-cells-requires
+put-all-cells-requires c κs =
     let p = c .before .before .before .before in
     let r = p .before .before in
     let t = r .before in
     let a = t .before in
     let s = a .before .before .before .before in (
       read-rows (s .args .table .now) (s .pre .0) (read r),
-      fits-last (wrote1 p) (flat (rowLines (t .ticks-of .result + 1) (a .animals-of .result) (body (s .args .table .now))) (a .animals-of .result)) refl,
+      fits-last (wrote1 p) (flat (linesFrom (t .ticks-of .result + 1) (a .animals-of .result) (body (s .args .table .now))) (a .animals-of .result)) refl,
     )
 
 -- The lines of the rows are written.
-wrote2 : (c : tie.After-put-rows)
+wrote2 : (c : tie.After-put-all-cells)
     → let p = c .before .before .before .before .before in
     let s = p .before .before .before .before .before .before .before .before .args in
-    Writing (tableText (s .table .now)) (s .out .now) (back (p .put-first-line .last .1 .1 .1 .1 .0) (p .put-first-line .result) (c .put-rows .last .1 .1 .1 .0)) (p .put-first-line .result + c .put-rows .result) []
-wrote2 c = last (wrote1 (c .before .before .before .before .before)) _ _ _ refl (c .put-rows .ensures .0) (c .put-rows .ensures .1)
+    Writing (tableText (s .table .now)) (s .out .now) (back (p .put-first-line .last .1 .1 .1 .1 .0) (p .put-first-line .result) (c .put-all-cells .last .1 .1 .1 .0)) (p .put-first-line .result + c .put-all-cells .result) []
+wrote2 c = last (wrote1 (c .before .before .before .before .before)) _ _ _ refl (c .put-all-cells .ensures .0) (c .put-all-cells .ensures .1)
 
 add-result : tie.Need-add-result
 add-result c = let w = wrote2 (c .before .before) in omega (arith, w .room, w .kept)
@@ -119,5 +119,5 @@ put-table-spec =
     tie.close
     (tie.spec
     shared-slice-read-w (λ c κs. search needs) (λ c κs. search needs) (λ c. search needs) (λ c. search needs) (λ c κs. search needs)
-    put-first-line-requires sub-put-rows part-put-rows-start (λ c. search needs) sub-put-rows-2 part-put-rows-start-2 (λ c. search needs)
-    put-rows-requires add-result same-length returns)
+    put-first-line-requires sub-put-all-cells part-put-all-cells-start (λ c. search needs) sub-put-all-cells-2 part-put-all-cells-start-2 (λ c. search needs)
+    put-all-cells-requires add-result same-length returns)

@@ -4,7 +4,7 @@ use mathlib.Core.Path.{sym, ap, _∙_}
 use native.Mathlib.Omega.{arith}
 use lib.ListN.{length}
 use Rattle.rules.specs.Sheet.{refusedText}
-use Rattle.table_text.specs.Onto.{onto}
+use Rattle.table_text.specs.Lines.{overwriteFront}
 use Rattle.sheet_text.proofs.Printed.{text-refused, text-read, read-table, put-as}
 use Rattle.sheet_text.proofs.print.put_read.Statement.{statement}
 use Rattle.sheet_text.proofs.print.put_read.Tie as tie

@@ -8,13 +8,13 @@ use Rattle.rules.specs.Sheet.{cellText}
 use Rattle.parts.specs.Parts.{part}
 
 -- The text at the front of the list, the rest as it was.
-unfoldable pub onto : List ℕ → List ℕ → List ℕ
-onto text l = text ++ drop (length text) l
+unfoldable pub overwriteFront : List ℕ → List ℕ → List ℕ
+overwriteFront text l = text ++ drop (length text) l
 
 -- The text of the v-th cell of the row of animal u, in cells of s words.
 unfoldable pub cellLine : ℕ → ℕ → List ℕ → ℕ → List ℕ
 cellLine s u row v = cellText u v (cellOf (part s v row))
 
 -- The text of the row of animal u, of n cells.
-unfoldable pub rowLines : ℕ → ℕ → List ℕ → ℕ → List ℕ
-rowLines s n body u = flat (cellLine s u (part (n * s) u body)) n
+unfoldable pub linesFrom : ℕ → ℕ → List ℕ → ℕ → List ℕ
+linesFrom s n body u = flat (cellLine s u (part (n * s) u body)) n

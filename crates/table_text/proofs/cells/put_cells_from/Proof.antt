@@ -1,4 +1,4 @@
--- `rows::put_row` meets its contract. The loop's invariant: the lines of the cells passed are written.
+-- `cells::put_cells_from` meets its contract. The loop's invariant: the lines of the cells passed are written.
 -- The measure is how many cells are left.
 use Prim.Native.Nat.{_+_, _-_, _≤_}
 use mathlib.Core.Path.{_≡_}
@@ -10,12 +10,12 @@ use Rattle.rules.specs.Folds.{flat}
 use Rattle.rules.specs.Layout.{cellOf}
 use Rattle.rules.specs.Sheet.{cellText}
 use Rattle.parts.proofs.Walk.{lent-length}
-use Rattle.logs.proofs.Steps.{Through, through-start, through-room, through-lent, through-turn, lent-rows}
-use Rattle.table_text.specs.Onto.{cellLine}
+use Rattle.logs.proofs.Passes.{Through, through-start, through-room, through-lent, through-turn, lent-rows}
+use Rattle.table_text.specs.Lines.{cellLine}
 use Rattle.table_text.proofs.Writing.{Writing, back, fits-last, last, parts-start, parts-next, parts-end}
 use Rattle.table_text.proofs.Texts.{cell-lent}
-use Rattle.table_text.proofs.rows.put_row.Statement.{statement}
-use Rattle.table_text.proofs.rows.put_row.Tie as tie
+use Rattle.table_text.proofs.cells.put_cells_from.Statement.{statement}
+use Rattle.table_text.proofs.cells.put_cells_from.Tie as tie
 
 abbrev Inv-loop : tie.InvT-loop
 Inv-loop row u n size out₀ from₀ at₀ v₀ out from at v = Through size n from v × Writing (flat (cellLine size u row) v) out₀ out at []
@@ -95,8 +95,8 @@ same-length c = c .before .loop .inv .1 .kept
 returns : tie.Need-returns Inv-loop μ-loop
 returns c = let l = c .before in parts-end _ (l .loop .inv .1) (omega (arith, c .loop-test .left, l .loop .inv .0 .below))
 
-pub put-row-spec : {M : Type 1} → statement M
-put-row-spec =
+pub put-cells-from-spec : {M : Type 1} → statement M
+put-cells-from-spec =
     tie.close
     (tie.spec
     Inv-loop μ-loop loop-holds add-end mul-put-cell (λ c. omega arith) (λ c. omega arith) part-put-cell-end sub-put-cell-2 part-put-cell-start-2
