@@ -1,4 +1,4 @@
--- A text at the front of a list, and the text of the rows of a table.
+-- A text at the front of a list, and the text of the cells of a table.
 use Prim.Native.Nat.{ℕ, _*_}
 use mathlib.Core.List.{List, _++_}
 use lib.ListN.{length, drop}
@@ -11,10 +11,10 @@ use Rattle.parts.specs.Parts.{part}
 unfoldable pub overwriteFront : List ℕ → List ℕ → List ℕ
 overwriteFront text l = text ++ drop (length text) l
 
--- The text of the v-th cell of the row of animal u, in cells of s words.
+-- The text of the v-th of the cells from u, of s words.
 unfoldable pub cellLine : ℕ → ℕ → List ℕ → ℕ → List ℕ
-cellLine s u row v = cellText u v (cellOf (part s v row))
+cellLine s u cells v = cellText u v (cellOf (part s v cells))
 
--- The text of the row of animal u, of n cells.
+-- The text of the n cells from u.
 unfoldable pub linesFrom : ℕ → ℕ → List ℕ → ℕ → List ℕ
 linesFrom s n body u = flat (cellLine s u (part (n * s) u body)) n

@@ -1,31 +1,32 @@
-// The text of the cells of a table, row by row.
+// The text of the cells of a table, those from one animal after those from another.
 ghost use mathlib.Core.Path.{_≡_};
 ghost use Prim.Native.Nat.{_≤_};
 ghost use lib.ListN.{length};
 ghost use Rattle.rules.specs.Folds.{flat};
-ghost use Rattle.logs.specs.Ordered.{CellsFit, RowsFit};
+ghost use Rattle.parts.specs.Cells.{Grid, CellsFrom};
+ghost use Rattle.parts.specs.RowsInUse.{RowsFit};
 ghost use Rattle.table_text.specs.Lines.{overwriteFront, cellLine, linesFrom};
 
-// Writes the lines of the row of animal u, of n cells of `size` words.
-fn put_cells_from(row: &[u32], u: u32, n: u32, size: usize, out: &mut [u8]) -> usize
-    requires { ⌜ CellsFit size n (now row) ⌝ }
-    requires { ⌜ length (flat (cellLine size u (now row)) n) ≤ length (now out) ⌝ }
-    ensures { λ r. ⌜ r ≡ length (flat (cellLine size u (now (row .entry))) n) ⌝ }
-    ensures { λ _. ⌜ now (out .exit) ≡ overwriteFront (flat (cellLine size u (now (row .entry))) n) (now (out .entry)) ⌝ }
+// Writes the lines of the n cells from u, of `size` words.
+fn put_cells_from(cells: &[u32], u: u32, n: u32, size: usize, out: &mut [u8]) -> usize
+    requires { ⌜ CellsFrom RowsFit n size (now cells) ⌝ }
+    requires { ⌜ length (flat (cellLine size u (now cells)) n) ≤ length (now out) ⌝ }
+    ensures { λ r. ⌜ r ≡ length (flat (cellLine size u (now (cells .entry))) n) ⌝ }
+    ensures { λ _. ⌜ now (out .exit) ≡ overwriteFront (flat (cellLine size u (now (cells .entry))) n) (now (out .entry)) ⌝ }
 {
     let mut from = 0;
     let mut at = 0;
     for v in 0..n {
         let end = from + size;
-        at = at + crate::cell::put_cell(&row[from..end], u, v, &mut out[at..]);
+        at = at + crate::cell::put_cell(&cells[from..end], u, v, &mut out[at..]);
         from = end;
     }
     at
 }
 
-// Writes the lines of n rows of n cells of `size` words.
+// Writes the lines of n × n cells of `size` words.
 pub(crate) fn put_all_cells(body: &[u32], n: u32, size: usize, out: &mut [u8]) -> usize
-    requires { ⌜ RowsFit size n (now body) ⌝ }
+    requires { ⌜ Grid RowsFit n size (now body) ⌝ }
     requires { ⌜ length (flat (linesFrom size n (now body)) n) ≤ length (now out) ⌝ }
     ensures { λ r. ⌜ r ≡ length (flat (linesFrom size n (now (body .entry))) n) ⌝ }
     ensures { λ _. ⌜ now (out .exit) ≡ overwriteFront (flat (linesFrom size n (now (body .entry))) n) (now (out .entry)) ⌝ }

@@ -1,105 +1,70 @@
--- `cells::put_all_cells` meets its contract. The loop's invariant: the lines of the rows passed are written.
--- The measure is how many rows are left.
+-- `cells::put_all_cells` meets its contract. The loop's invariant: the lines of the cells from the animals passed are written.
+-- The measure is how many animals are left.
 use Prim.Native.Nat.{_+_, _-_, _*_, _≤_}
-use mathlib.Core.Path.{_≡_, sym, subst}
-use mathlib.Core.List.{[]}
-use native.Mathlib.Nat.{mul-le-mul}
+use mathlib.Core.Path.{sym, subst}
+use native.Mathlib.Nat.{mul-le-mul, le-of-eq}
 use native.Mathlib.Omega.{arith}
 use borrow.Author.Needs.{needs}
-use lib.ListN.{length, take, drop}
-use Rattle.rules.specs.Folds.{flat}
-use Rattle.logs.specs.Ordered.{CellsFit}
-use Rattle.logs.proofs.Passes.{Through, through-start, through-room, through-lent, through-turn}
-use Rattle.table_text.specs.Lines.{cellLine, linesFrom}
-use Rattle.table_text.proofs.Writing.{Writing, back, fits-last, last, parts-start, parts-next, parts-end}
-use Rattle.table_text.proofs.Texts.{row-lent}
+use lib.ListN.{length}
+use Rattle.parts.specs.Cells.{CellsFrom}
+use Rattle.parts.specs.RowsInUse.{RowsFit}
+use Rattle.parts.proofs.Places.{grid-long, grid-from}
+use Rattle.parts.proofs.Reading.{through-room, through-lent}
+use Rattle.table_text.specs.Lines.{linesFrom}
+use Rattle.table_text.proofs.Writing.{WritingParts, back, inside, parts-start, part-fits, part-written, parts-end}
+use Rattle.table_text.proofs.Texts.{from-lent}
 use Rattle.table_text.proofs.cells.put_all_cells.Statement.{statement}
 use Rattle.table_text.proofs.cells.put_all_cells.Tie as tie
 
 abbrev Inv-loop : tie.InvT-loop
-Inv-loop body n size out₀ width from₀ at₀ u₀ out from at u = Through (n * size) n from u × Writing (flat (linesFrom size n body) u) out₀ out at []
+Inv-loop body n size out₀ width from₀ at₀ u₀ out from at u = WritingParts (linesFrom size n body) (n * size) n out₀ out from at u
 
 abbrev μ-loop : tie.MeasureT-loop
 μ-loop body n size out₀ width from₀ at₀ u₀ out from at u = n - u
 
-mul-width : tie.Need-mul-width Inv-loop μ-loop
-mul-width c = let b = c .before .before .pre .0 in omega (arith, mul-le-mul (b .few) (b .short))
+-- The entry of the function, seen from the loop, and the turn that an animal's cells were written in.
+abbrev entry : tie.At-loop Inv-loop μ-loop → tie.Start Inv-loop μ-loop
+entry c = c .before .before .before
 
-loop-holds : tie.Need-loop-holds Inv-loop μ-loop
-loop-holds c = (through-start _ _, parts-start _ _)
+abbrev turn : tie.After-put-cells-from Inv-loop μ-loop → tie.In-loop Inv-loop μ-loop
+turn c = c .before .before .before
 
--- The next row lies inside the words.
-room : (c : tie.In-loop Inv-loop μ-loop) → let l = c .before in let s = l .before .before .before .args in l .loop .from + s .n * s .size ≤ length (s .body .now)
-room c = let l = c .before in let s = l .before .before .before in through-room (l .loop .inv .0) (s .args .body .now) (s .pre .0 .long) (c .loop-test .taken)
-
--- The lines of the next row are left.
-lines : (c : tie.In-loop Inv-loop μ-loop)
-    → let l = c .before in
-    let s = l .before .before .before .args in
-    let f = linesFrom (s .size) (s .n) (s .body .now) in
-    Writing (flat f (l .loop .u + 1)) (s .out .now) (l .loop .out) (l .loop .at) (f (l .loop .u))
-lines c = let l = c .before in let s = l .before .before .before in parts-next _ (s .args .n) (l .loop .u) (l .loop .inv .1) (c .loop-test .taken) (s .pre .1)
-
-add-end : tie.Need-add-end Inv-loop μ-loop
-add-end c = omega (arith, room c)
-
-mul-put-cells-from : tie.Need-mul-put-cells-from Inv-loop μ-loop
-mul-put-cells-from c = omega (arith, room c)
-
-part-put-cells-from-end : tie.Need-part-put-cells-from-end Inv-loop μ-loop
-part-put-cells-from-end c = omega (arith, room c)
-
-sub-put-cells-from-2 : tie.Need-sub-put-cells-from-2 Inv-loop μ-loop
-sub-put-cells-from-2 c = omega (arith, lines (c .before) .room)
-
-part-put-cells-from-start-2 : tie.Need-part-put-cells-from-start-2 Inv-loop μ-loop
-part-put-cells-from-start-2 c = omega (arith, lines (c .before) .room)
-
--- The text of the row that is lent.
-text : (c : tie.In-loop Inv-loop μ-loop)
-    → let l = c .before in
-    let s = l .before .before .before .args in
-    linesFrom (s .size) (s .n) (s .body .now) (l .loop .u) ≡ flat (cellLine (s .size) (l .loop .u) (take (l .loop .from + s .n * s .size - l .loop .from) (drop (l .loop .from) (s .body .now)))) (s .n)
-text c =
-    let l = c .before in
-    let s = l .before .before .before .args in
-    row-lent (s .size) (s .n) (l .loop .u) (s .body .now) _ (through-lent (l .loop .inv .0) (s .body .now))
+-- The cells from the next animal lie inside the words.
+room : (c : tie.In-loop Inv-loop μ-loop) → let g = entry (c .before) .args in c .before .loop .from + g .n * g .size ≤ length (g .body .now)
+room c = let s = entry (c .before) in through-room (c .before .loop .inv .through) (s .args .body .now) (le-of-eq (sym (grid-long (s .pre .0)))) (c .loop-test .taken)
 
 put-cells-from-requires : tie.Need-put-cells-from-requires Inv-loop μ-loop
 put-cells-from-requires c κs =
     let t = c .before .before in
     let l = t .before in
-    let s = l .before .before .before in
-    let g = s .args in (
-      subst (CellsFit (g .size) (g .n)) (sym (through-lent (l .loop .inv .0) (g .body .now))) (s .pre .0 .rows (l .loop .u) (t .loop-test .taken)),
-      fits-last (lines t) (flat (cellLine (g .size) (l .loop .u) (take (l .loop .from + g .n * g .size - l .loop .from) (drop (l .loop .from) (g .body .now)))) (g .n)) (text t),
+    let s = entry l in
+    let g = s .args in
+    let e = through-lent (l .loop .inv .through) (g .body .now) in (
+      subst (CellsFrom RowsFit (g .n) (g .size)) (sym e) (grid-from (s .pre .0) (l .loop .u) (t .loop-test .taken)),
+      part-fits (l .loop .inv) _ (from-lent (g .size) (g .n) (l .loop .u) (g .body .now) _ e) (t .loop-test .taken) (s .pre .1),
     )
 
--- The lines of one more row are written.
+-- The lines of the cells from one more animal are written.
 wrote : (c : tie.After-put-cells-from Inv-loop μ-loop)
-    → let l = c .before .before .before .before in
-    let s = l .before .before .before .args in
-    Writing (flat (linesFrom (s .size) (s .n) (s .body .now)) (l .loop .u + 1)) (s .out .now) (back (l .loop .out) (l .loop .at) (c .put-cells-from .last .1 .1 .1 .1 .0)) (l .loop .at + c .put-cells-from .result) []
-wrote c = let t = c .before .before .before in last (lines t) _ _ _ (text t) (c .put-cells-from .ensures .0) (c .put-cells-from .ensures .1)
-
-add-at : tie.Need-add-at Inv-loop μ-loop
-add-at c = let w = wrote (c .before .before) in omega (arith, w .room, w .kept)
-
-loop-again : tie.Need-loop-again Inv-loop μ-loop
-loop-again c =
-    let k = c .before .before in
-    let t = k .before .before .before in
-    (through-turn (t .before .loop .inv .0) (t .loop-test .taken), wrote k)
-
-same-length : tie.Need-same-length Inv-loop μ-loop
-same-length c = c .before .loop .inv .1 .kept
-
-returns : tie.Need-returns Inv-loop μ-loop
-returns c = let l = c .before in parts-end _ (l .loop .inv .1) (omega (arith, c .loop-test .left, l .loop .inv .0 .below))
+    → let l = turn c .before in
+    let g = entry l .args in
+    WritingParts (linesFrom (g .size) (g .n) (g .body .now)) (g .n * g .size) (g .n) (g .out .now) (back (l .loop .out) (l .loop .at) (c .put-cells-from .last .1 .1 .1 .1 .0))
+    (l .loop .from + g .n * g .size) (l .loop .at + c .put-cells-from .result) (l .loop .u + 1)
+wrote c =
+    let t = turn c in
+    let l = t .before in
+    let s = entry l in
+    let g = s .args in
+    part-written (l .loop .inv) _ _ _ (from-lent (g .size) (g .n) (l .loop .u) (g .body .now) _ (through-lent (l .loop .inv .through) (g .body .now))) (t .loop-test .taken) (s .pre .1)
+    (c .put-cells-from .ensures .0) (c .put-cells-from .ensures .1)
 
 pub put-all-cells-spec : {M : Type 1} → statement M
 put-all-cells-spec =
     tie.close
     (tie.spec
-    Inv-loop μ-loop mul-width loop-holds add-end mul-put-cells-from (λ c. omega arith) (λ c. omega arith) part-put-cells-from-end sub-put-cells-from-2 part-put-cells-from-start-2
-    (λ c. search needs) put-cells-from-requires add-at (λ c. omega arith) (λ c. omega arith) loop-again same-length returns)
+    Inv-loop μ-loop (λ c. let b = c .before .before .pre .0 in omega (arith, mul-le-mul (b .few) (b .short))) (λ c. parts-start _ _ _ _)
+    (λ c. omega (arith, room c)) (λ c. omega (arith, room c)) (λ c. omega arith) (λ c. omega arith) (λ c. omega (arith, room c))
+    (λ c. omega (arith, inside (c .before .before .loop .inv .writing))) (λ c. omega (arith, inside (c .before .before .loop .inv .writing)))
+    (λ c. search needs) put-cells-from-requires (λ c. omega (arith, inside (wrote (c .before .before) .writing))) (λ c. omega arith)
+    (λ c. omega arith) (λ c. wrote (c .before .before)) (λ c. c .before .loop .inv .writing .kept)
+    (λ c. parts-end (c .before .loop .inv) (c .loop-test .left)))
