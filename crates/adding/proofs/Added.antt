@@ -23,62 +23,16 @@ use Rattle.rules.proofs.Sound.{table-sizes, opens-first, opens-length, part-len
 use Rattle.rules.proofs.Judged.{add-iff}
 use Rattle.rules.proofs.Changes.{sameCell-refl}
 use Rattle.rules.proofs.Demand1.{added-good}
-use Rattle.parts.specs.Parts.{part, parts}
-use Rattle.parts.proofs.Flat.{parts-flat}
+use Rattle.grid.specs.Parts.{part, parts}
+use Rattle.grid.proofs.Flat.{parts-flat}
+use Rattle.grid.specs.Cells.{Grid}
+use Rattle.grid.proofs.Places.{rest-lent, cell-in, cell-of-row, grid-long, from-long}
 use Rattle.cells.specs.Stored.{Stored, orZero}
-use Rattle.adding.specs.Steps.{cellIn, Body, departing, arriving, Listed, Below, tickOf, stepCell, stepAt, stepRow, movesBoth, moves, movesAt, rowMoves}
-use Rattle.adding.proofs.Places.{cell-of-row, body-rows, row-length}
-use Rattle.adding.proofs.Ticks.{Tick, tick-below, tick-again, tick-cond, latest-tick, earliest-tick}
-use Rattle.adding.proofs.Turns.{moves-both}
-
--- ---- a table that passes its checks
-
-module _ (T : List ℕ) (p : ValidTable T) where
-  abbrev n : ℕ
-  n = animals T
-
-  abbrev τ : ℕ
-  τ = ticks T
-
-  abbrev δ : ℕ
-  δ = carry T
-
-  -- A cell among the words after the opening word is that of the table.
-  pub cell-in : (x y : ℕ) → cellIn n (τ + 1) (drop 1 T) x y ≡ cellAt n τ T x y
-  unfolding cellIn cellAt
-  cell-in x y = ap (take (τ + 1)) (drop-drop ((x * n + y) * (τ + 1)) 1 T)
-
-  -- The limits of the intervals of cell (x, y).
-  limits : (x y : ℕ) → x < n → y < n → (i : Interval) → List·Memᴰ i (cellsOf T x y) → Limits τ δ i
-  limits x y h k = passes-good T p .cells x y h k .limits
-
-  -- Each cell's words are as the functions on a cell ask.
-  cell-stored : (x y : ℕ) → x < n → y < n → Stored (cellAt n τ T x y)
-  unfolding cellsOf
-  cell-stored x y h k =
-      let e : length (cellAt n τ T x y) ≡ τ + 1 = part-length T p x y h k in
-      let z = table-sizes T in
-      let q : τ ≡ length (cellAt n τ T x y) - 1 = omega arith in
-      record {
-        words = part-words T p x y h k ∙ ap (λ (m : ℕ). cellWords m (cellsOf T x y)) q;
-        long = omega arith;
-        short = omega (arith, z .τ-high);
-        rising = passes-good T p .cells x y h k .rising;
-        departs = λ i m. limits x y h k i m .departs;
-        in-time = λ i m. let l = limits x y h k i m in omega (arith, l .in-time);
-        arrives = λ i m. let l = limits x y h k i m in omega (arith, l .arrives, z .τ-high, z .δ-high);
-      }
-
-  -- The words after the opening word, as the loops over them ask.
-  pub body-of : Body n (τ + 1) (drop 1 T)
-  body-of =
-      let z = table-sizes T in
-      record {
-        few = z .n-high;
-        long = length-drop 1 T ∙ omega (arith, opens-length T (p .opens));
-        short = omega (arith, z .τ-high);
-        cells = λ x y h k. subst Stored (sym (cell-in x y)) (cell-stored x y h k);
-      }
+use Rattle.tables.proofs.Stored.{cell-read, cell-limits, stored-cells}
+use Rattle.tables.proofs.Ticks.{Tick, tick-cond, latest-tick, earliest-tick}
+use Rattle.adding.specs.Steps.{tickBy, departing, arriving, Listed, Below, tickOf, entered, enteredAt, enteredFrom, changesBoth, changes, changesAt, changesFrom}
+use Rattle.adding.proofs.Listed.{listed-below, listed-read}
+use Rattle.adding.proofs.Turns.{changes-both}
 
 -- ---- an add that no check refuses
 
@@ -104,19 +58,19 @@ module _ (T : List ℕ) (k : Contact) (ok : addRefusal T k ≡ none) where
   a = k .tick + carry T
 
   -- Whether the contact is known.
-  pub known-is : stands (interval (k .tick) a) (cellOf (cellIn m s body (k .from) (k .to))) ≡ holds T k
-  unfolding holds cellsOf
-  known-is = ap (λ (l : List ℕ). stands (interval (k .tick) a) (cellOf l)) (cell-in T passes (k .from) (k .to))
+  pub known-is : {b : Bool} (lent : List ℕ) → lent ≡ cellAt m (ticks T) T (k .from) (k .to) → b ≡ stands (interval (k .tick) a) (cellOf lent) → b ≡ holds T k
+  unfolding holds
+  known-is = cell-read (stands (interval (k .tick) a)) T (k .from) (k .to)
 
   -- The departures are those of the rule.
   departure-is : (x : ℕ) → departing m s body (k .from) (k .tick) x ≡ orZero (departureOf (cellsOf T) k x)
   unfolding departing departureOf cellsOf
-  departure-is x = ap (λ (l : List ℕ). orZero (cond (eqb x (k .from)) (some (k .tick)) (latestDeparture (cellOf l) (k .tick)))) (cell-in T passes x (k .from))
+  departure-is x = ap (tickBy latestDeparture (k .from) (k .tick) x) (cell-in m (ticks T) T x (k .from))
 
   -- The arrivals are those of the rule.
   arrival-is : (y : ℕ) → arriving m s body (k .to) a y ≡ orZero (arrivalOf (carry T) (cellsOf T) k y)
   unfolding arriving arrivalOf cellsOf
-  arrival-is y = ap (λ (l : List ℕ). orZero (cond (eqb y (k .to)) (some a) (earliestArrival (cellOf l) a))) (cell-in T passes (k .to) y)
+  arrival-is y = ap (tickBy earliestArrival (k .to) a y) (cell-in m (ticks T) T (k .to) y)
 
   -- The departures lie within their limits.
   departure-tick : (x : ℕ) → x < m → Tick s (departureOf (cellsOf T) k x)
@@ -124,7 +78,7 @@ module _ (T : List ℕ) (k : Contact) (ok : addRefusal T k ≡ none) where
   departure-tick x h =
       tick-cond s (eqb x (k .from)) (some (k .tick)) (latestDeparture (cellsOf T x (k .from)) (k .tick))
       (omega (arith, legal .from-one, legal .to-last))
-      (latest-tick s (k .tick) (cellsOf T x (k .from)) (λ i q. let l = limits T passes x (k .from) h (legal .from-below) i q in omega (arith, l .departs, l .in-time)))
+      (latest-tick s (k .tick) (cellsOf T x (k .from)) (λ i q. let l = cell-limits T passes x (k .from) h (legal .from-below) i q in omega (arith, l .departs, l .in-time)))
 
   -- The arrivals lie within their limits.
   arrival-tick : (y : ℕ) → y < m → Tick (maxArrival + 1) (arrivalOf (carry T) (cellsOf T) k y)
@@ -134,28 +88,28 @@ module _ (T : List ℕ) (k : Contact) (ok : addRefusal T k ≡ none) where
       tick-cond (maxArrival + 1) (eqb y (k .to)) (some a) (earliestArrival (cellsOf T (k .to) y) a)
       (omega (arith, legal .from-one, legal .to-last, z .τ-high, z .δ-high))
       (earliest-tick (maxArrival + 1) a (cellsOf T (k .to) y)
-      (λ i q. let l = limits T passes (k .to) y (legal .to-below) h i q in omega (arith, l .departs, l .carried, l .arrives, z .τ-high, z .δ-high)))
+      (λ i q. let l = cell-limits T passes (k .to) y (legal .to-below) h i q in omega (arith, l .departs, l .carried, l .arrives, z .τ-high, z .δ-high)))
 
   module _ (d e : List ℕ) (hd : Listed m (departing m s body (k .from) (k .tick)) d) (he : Listed m (arriving m s body (k .to) a) e) where
     -- The departures lie within the cell.
     pub departures-below : Below m s d
-    departures-below x h = rw (hd x h, departure-is x) (tick-below s (departureOf (cellsOf T) k x) (omega arith) (departure-tick x h))
+    departures-below = listed-below m s _ (departureOf (cellsOf T) k) departure-is departure-tick d hd (omega arith)
 
     -- The arrivals have their 11 bits.
     pub arrivals-below : Below m (maxArrival + 1) e
-    arrivals-below y h = rw (he y h, arrival-is y) (tick-below (maxArrival + 1) (arrivalOf (carry T) (cellsOf T) k y) (omega arith) (arrival-tick y h))
+    arrivals-below = listed-below m (maxArrival + 1) _ (arrivalOf (carry T) (cellsOf T) k) arrival-is arrival-tick e he (omega arith)
 
     -- A departure is read from the array as the rule has it.
     departure-read : (x : ℕ) → x < m → tickOf (getD d x 0) ≡ departureOf (cellsOf T) k x
-    departure-read x h = ap tickOf (hd x h ∙ departure-is x) ∙ tick-again s (departureOf (cellsOf T) k x) (departure-tick x h)
+    departure-read = listed-read m s _ (departureOf (cellsOf T) k) departure-is departure-tick d hd
 
     -- An arrival is read from the array as the rule has it.
     arrival-read : (y : ℕ) → y < m → tickOf (getD e y 0) ≡ arrivalOf (carry T) (cellsOf T) k y
-    arrival-read y h = ap tickOf (he y h ∙ arrival-is y) ∙ tick-again (maxArrival + 1) (arrivalOf (carry T) (cellsOf T) k y) (arrival-tick y h)
+    arrival-read = listed-read m (maxArrival + 1) _ (arrivalOf (carry T) (cellsOf T) k) arrival-is arrival-tick e he
 
-    -- A cell of a row is that of the table.
+    -- A cell of those from x is that of the table.
     cell-at : (x y : ℕ) → y < m → part s y (part (m * s) x body) ≡ cellAt m (ticks T) T x y
-    cell-at x y h = cell-of-row m s x y body h ∙ cell-in T passes x y
+    cell-at x y h = cell-of-row m s x y body h ∙ cell-in m (ticks T) T x y
 
     -- The cell that its words say.
     cell-is : (x y : ℕ) → cellOf (cellAt m (ticks T) T x y) ≡ cellsOf T x y
@@ -165,8 +119,8 @@ module _ (T : List ℕ) (k : Contact) (ok : addRefusal T k ≡ none) where
     -- ---- the words
 
     -- The words of cell (x, y) become those of the cell that the rule leaves.
-    step-is : (x y : ℕ) → x < m → y < m → stepAt x (getD d x 0) e y (part s y (part (m * s) x body)) ≡ cellWords (ticks T) (addedCells T k x y)
-    unfolding stepAt stepCell addedCells add
+    step-is : (x y : ℕ) → x < m → y < m → enteredAt x (getD d x 0) e y (part s y (part (m * s) x body)) ≡ cellWords (ticks T) (addedCells T k x y)
+    unfolding enteredAt entered addedCells add
     step-is x y h j =
         let l : length (cellAt m (ticks T) T x y) - 1 ≡ ticks T = omega (arith, part-length T passes x y h j) in
         rw (cell-at x y j, departure-read x h, arrival-read y j, l) (go (eqb x y))
@@ -182,23 +136,23 @@ module _ (T : List ℕ) (k : Contact) (ok : addRefusal T k ≡ none) where
     added-length x y h j = let z = table-sizes T in cell-length (ticks T) (carry T) (z .τ-high) (z .δ-high) (addedCells T k x y) (added-good T k ok .cells x y h j)
 
     -- So have the words that a turn leaves.
-    step-length : (x y : ℕ) → x < m → y < m → length (stepAt x (getD d x 0) e y (part s y (part (m * s) x body))) ≡ s
+    step-length : (x y : ℕ) → x < m → y < m → length (enteredAt x (getD d x 0) e y (part s y (part (m * s) x body))) ≡ s
     step-length x y h j = ap length (step-is x y h j) ∙ added-length x y h j
 
-    -- The words of the row of x become those that the rule leaves.
-    row-is : (x : ℕ) → x < m → stepRow m s d e x (part (m * s) x body) ≡ flat (λ y. cellWords (ticks T) (addedCells T k x y)) m
-    unfolding stepRow
-    row-is x h =
-        parts-flat (stepAt x (getD d x 0) e) s (part (m * s) x body) m (row-length m s body (body-of T passes) x h) (λ y j. step-length x y h j)
+    -- The words of the cells from x become those that the rule leaves.
+    from-is : (x : ℕ) → x < m → enteredFrom m s d e x (part (m * s) x body) ≡ flat (λ y. cellWords (ticks T) (addedCells T k x y)) m
+    unfolding enteredFrom
+    from-is x h =
+        parts-flat (enteredAt x (getD d x 0) e) s (part (m * s) x body) m (from-long (stored-cells T passes) x h) (λ y j. step-length x y h j)
         ∙ flat-same _ _ m (λ y j. step-is x y h j)
 
-    -- The row keeps its length.
-    row-made : (x : ℕ) → x < m → length (stepRow m s d e x (part (m * s) x body)) ≡ m * s
-    row-made x h = ap length (row-is x h) ∙ flat-length _ s m (λ y j. added-length x y h j)
+    -- They keep their length.
+    from-made : (x : ℕ) → x < m → length (enteredFrom m s d e x (part (m * s) x body)) ≡ m * s
+    from-made x h = ap length (from-is x h) ∙ flat-length _ s m (λ y j. added-length x y h j)
 
     -- The words after the opening word become those that the rule leaves.
-    body-is : parts (stepRow m s d e) (m * s) m body ≡ flat (λ x. flat (λ y. cellWords (ticks T) (addedCells T k x y)) m) m
-    body-is = parts-flat (stepRow m s d e) (m * s) body m (body-rows m s body (body-of T passes)) row-made ∙ flat-same _ _ m row-is
+    body-is : parts (enteredFrom m s d e) (m * s) m body ≡ flat (λ x. flat (λ y. cellWords (ticks T) (addedCells T k x y)) m) m
+    body-is = parts-flat (enteredFrom m s d e) (m * s) body m (grid-long (stored-cells T passes)) from-made ∙ flat-same _ _ m from-is
 
     -- The first word alone.
     first-only : (l : List ℕ) → 1 ≤ length l → take 1 l ≡ getD l 0 0 ∷ []
@@ -206,7 +160,7 @@ module _ (T : List ℕ) (k : Contact) (ok : addRefusal T k ≡ none) where
     first-only (w ∷ l) h = refl
 
     -- The table's words afterwards, where the words after the opening word were lent.
-    pub leaves-is : (new : List ℕ) → new ≡ parts (stepRow m s d e) (m * s) m body → take 1 T ++ (new ++ drop (length T - 1) (drop 1 T)) ≡ addLeaves T k
+    pub leaves-is : (new : List ℕ) → new ≡ parts (enteredFrom m s d e) (m * s) m body → take 1 T ++ (new ++ drop (length T - 1) (drop 1 T)) ≡ addLeaves T k
     unfolding addLeaves tableWords
     leaves-is new q =
         rw ok
@@ -217,27 +171,28 @@ module _ (T : List ℕ) (k : Contact) (ok : addRefusal T k ≡ none) where
     -- ---- the count
 
     -- A cell is counted where the rule changes it.
-    moves-is : (x y : ℕ) → x < m → y < m → movesAt s x (getD d x 0) e (part (m * s) x body) y ≡ not (sameCell (cellsOf T x y) (addedCells T k x y))
-    unfolding movesAt moves addedCells add
-    moves-is x y h j = rw (cell-at x y j, departure-read x h, arrival-read y j) (go (eqb x y))
+    changes-is : (x y : ℕ) → x < m → y < m → changesAt s x (getD d x 0) e (part (m * s) x body) y ≡ not (sameCell (cellsOf T x y) (addedCells T k x y))
+    unfolding changesAt changes addedCells add
+    changes-is x y h j = rw (cell-at x y j, departure-read x h, arrival-read y j) (go (eqb x y))
       where
         go : (b : Bool)
-            → cond b false (movesBoth (departureOf (cellsOf T) k x) (arrivalOf (carry T) (cellsOf T) k y) (cellOf (cellAt m (ticks T) T x y)))
+            → cond b false (changesBoth (departureOf (cellsOf T) k x) (arrivalOf (carry T) (cellsOf T) k y) (cellOf (cellAt m (ticks T) T x y)))
             ≡ not (sameCell (cellsOf T x y) (cond b (cellsOf T x y) (enterBoth (departureOf (cellsOf T) k x) (arrivalOf (carry T) (cellsOf T) k y) (cellsOf T x y))))
         go true = ap not (sym (sameCell-refl (cellsOf T x y)))
         go false =
-            ap (movesBoth (departureOf (cellsOf T) k x) (arrivalOf (carry T) (cellsOf T) k y)) (cell-is x y)
-            ∙ moves-both (departureOf (cellsOf T) k x) (arrivalOf (carry T) (cellsOf T) k y) (cellsOf T x y)
+            ap (changesBoth (departureOf (cellsOf T) k x) (arrivalOf (carry T) (cellsOf T) k y)) (cell-is x y)
+            ∙ changes-both (departureOf (cellsOf T) k x) (arrivalOf (carry T) (cellsOf T) k y) (cellsOf T x y)
 
     -- The cells that change are those that the rule changes.
-    pub count-is : sumBelow (rowMoves m s d e body) m ≡ cellsChanged m (cellsOf T) (addedCells T k)
-    unfolding rowMoves cellsChanged
-    count-is = sum-same _ _ m (λ x h. count-same _ _ m (λ y j. moves-is x y h j))
+    pub count-is : sumBelow (changesFrom m s d e body) m ≡ cellsChanged m (cellsOf T) (addedCells T k)
+    unfolding changesFrom cellsChanged
+    count-is = sum-same _ _ m (λ x h. count-same _ _ m (λ y j. changes-is x y h j))
 
 -- ---- as the code reads the numbers and lends the words
 
 -- What an accepted add says of the numbers.
 pub record Accepted (T : List ℕ) (k : Contact) : Type 0 where
+  pub valid : ValidTable T
   pub long : 1 ≤ length T
   pub from-below : k .from < animals T
   pub to-below : k .to < animals T
@@ -251,16 +206,13 @@ accepted T k ok =
     let l = legal T k ok in
     let z = table-sizes T in
     record {
+      valid = p;
       long = omega (arith, opens-length T (p .opens));
       from-below = l .from-below;
       to-below = l .to-below;
       tick-small = omega (arith, l .to-last, z .τ-high);
       carry-small = z .δ-high;
     }
-
--- All words after the first, as they are lent.
-pub body-lent : (T : List ℕ) → take (length T - 1) (drop 1 T) ≡ drop 1 T
-body-lent T = take-all (length T - 1) (drop 1 T) (le-of-eq (length-drop 1 T))
 
 -- The numbers read off the table, and the words after the first as they are lent.
 pub record Read (T : List ℕ) (k : Contact) (n s a : ℕ) (lent : List ℕ) : Type 0 where
@@ -275,12 +227,12 @@ module _ (T : List ℕ) (k : Contact) (ok : addRefusal T k ≡ none) {n s a : �
   as-read P h = rw (r .animals-is, r .size-is, r .arrival-is, r .lent-is) h
 
   -- The words lent are as the loops over them ask.
-  pub read-body : Body n s lent
-  read-body = as-read (λ n s a l. Body n s l) (body-of T (passes T k ok))
+  pub read-cells : Grid Stored n s lent
+  read-cells = as-read (λ n s a l. Grid Stored n s l) (stored-cells T (passes T k ok))
 
   -- The contact is known exactly when the table holds it.
-  pub read-known : {b : Bool} → b ≡ stands (interval (k .tick) a) (cellOf (cellIn n s lent (k .from) (k .to))) → b ≡ holds T k
-  read-known {b} = as-read (λ n s a l. b ≡ stands (interval (k .tick) a) (cellOf (cellIn n s l (k .from) (k .to))) → b ≡ holds T k) (λ q. q ∙ known-is T k ok)
+  pub read-known : {b : Bool} (xs : List ℕ) → xs ≡ cellAt (animals T) (ticks T) T (k .from) (k .to) → b ≡ stands (interval (k .tick) a) (cellOf xs) → b ≡ holds T k
+  read-known {b} xs = as-read (λ n s a l. xs ≡ cellAt (animals T) (ticks T) T (k .from) (k .to) → b ≡ stands (interval (k .tick) a) (cellOf xs) → b ≡ holds T k) (known-is T k ok xs)
 
   module _ (d e : List ℕ) where
     -- The ticks read lie within their limits.
@@ -291,18 +243,18 @@ module _ (T : List ℕ) (k : Contact) (ok : addRefusal T k ≡ none) {n s a : �
 
     -- The cells counted are those that the rule changes.
     pub read-count : {c : ℕ} → Listed n (departing n s lent (k .from) (k .tick)) d → Listed n (arriving n s lent (k .to) a) e
-        → c ≡ sumBelow (rowMoves n s d e lent) n → c ≡ cellsChanged (animals T) (cellsOf T) (addedCells T k)
+        → c ≡ sumBelow (changesFrom n s d e lent) n → c ≡ cellsChanged (animals T) (cellsOf T) (addedCells T k)
     read-count {c} =
         as-read
         (λ n s a l. Listed n (departing n s l (k .from) (k .tick)) d → Listed n (arriving n s l (k .to) a) e
-        → c ≡ sumBelow (rowMoves n s d e l) n → c ≡ cellsChanged (animals T) (cellsOf T) (addedCells T k))
+        → c ≡ sumBelow (changesFrom n s d e l) n → c ≡ cellsChanged (animals T) (cellsOf T) (addedCells T k))
         (λ hd he q. q ∙ count-is T k ok d e hd he)
 
     -- The words left are those of the rule.
     pub read-leaves : (new : List ℕ) → Listed n (departing n s lent (k .from) (k .tick)) d → Listed n (arriving n s lent (k .to) a) e
-        → new ≡ parts (stepRow n s d e) (n * s) n lent → take 1 T ++ (new ++ drop (length T - 1) (drop 1 T)) ≡ addLeaves T k
+        → new ≡ parts (enteredFrom n s d e) (n * s) n lent → take 1 T ++ (new ++ drop (length T - 1) (drop 1 T)) ≡ addLeaves T k
     read-leaves new =
         as-read
         (λ n s a l. Listed n (departing n s l (k .from) (k .tick)) d → Listed n (arriving n s l (k .to) a) e
-        → new ≡ parts (stepRow n s d e) (n * s) n l → take 1 T ++ (new ++ drop (length T - 1) (drop 1 T)) ≡ addLeaves T k)
+        → new ≡ parts (enteredFrom n s d e) (n * s) n l → take 1 T ++ (new ++ drop (length T - 1) (drop 1 T)) ≡ addLeaves T k)
         (λ hd he. leaves-is T k ok d e hd he new)

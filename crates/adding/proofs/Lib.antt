@@ -1,4 +1,4 @@
-pub mod Places
 pub mod Ticks
+pub mod Listed
 pub mod Turns
 pub mod Added

@@ -5,27 +5,14 @@ mod steps;
 
 ghost use mathlib.Core.Path.{_≡_};
 ghost use mathlib.Core.Option.{none};
-ghost use Prim.Native.Nat.{_<_};
-ghost use Rattle.journeys.specs.Journey.{interval, contact};
-ghost use Rattle.rules.specs.Layout.{animals, cellOf, cellsOf};
-ghost use Rattle.rules.specs.Adding.{stands, addRefusal, holds, cellsChanged, addedCells, addLeaves};
-ghost use Rattle.adding.specs.Steps.{cellIn, Body};
+ghost use Rattle.journeys.specs.Journey.{contact};
+ghost use Rattle.rules.specs.Layout.{animals, cellsOf};
+ghost use Rattle.rules.specs.Adding.{addRefusal, holds, cellsChanged, addedCells, addLeaves};
 
 // Whether the contact was known, and how many cells it changed.
 pub struct Change {
     pub known: bool,
     pub cells: u32,
-}
-
-// Whether [t, a] stands in cell (u, v).
-fn is_known(body: &[u32], n: usize, size: usize, u: usize, v: usize, t: u32, a: u32) -> bool
-    requires { ⌜ Body n size (now body) ⌝ }
-    requires { ⌜ (u < n) × (v < n) ⌝ }
-    ensures { λ r. ⌜ r ≡ stands (interval t a) (cellOf (cellIn n size (now (body .entry)) u v)) ⌝ }
-{
-    let at = (u * n + v) * size;
-    let end = at + size;
-    cells::stands(&body[at..end], t, a)
 }
 
 // Adds the contact (u, v, t), which no check refuses.
@@ -43,7 +30,7 @@ pub fn add_contact(table: &mut [u32], u: u32, v: u32, t: u32) -> Change
     let a = t + words::carry_of(w);
     let d = ends::departures(&table[1..], n, size, from, t);
     let e = ends::arrivals(&table[1..], n, size, to, a);
-    let known = is_known(&table[1..], n, size, from, to, t, a);
-    let cells = steps::enter_rows(&mut table[1..], n, size, &d, &e);
+    let known = cells::stands(tables::cell(table, u, v), t, a);
+    let cells = steps::enter_all_cells(&mut table[1..], n, size, &d, &e);
     Change { known, cells }
 }

@@ -21,9 +21,10 @@ use Rattle.journeys.proofs.Tests.{Outcome, holds, fails, eq-outcome}
 use Rattle.rules.specs.Layout.{cellOf}
 use Rattle.rules.proofs.Fresh.{add-good}
 use Rattle.cells.specs.Stored.{orZero}
-use Rattle.parts.specs.Parts.{part, put}
-use Rattle.adding.specs.Steps.{cellIn, departing}
-use Rattle.adding.proofs.Ticks.{Tick, tick-cond, latest-tick}
+use Rattle.grid.specs.Parts.{part, put}
+use Rattle.grid.specs.Cells.{cellIn}
+use Rattle.adding.specs.Steps.{departing}
+use Rattle.tables.proofs.Ticks.{Tick, tick-cond, latest-tick}
 use Rattle.building.specs.Last.{putLast, putLastFrom, withRows, InUse}
 use Rattle.building.specs.Marks.{marks, Marked}
 use Rattle.building.specs.Stage.{joined, Ready, Spread, Joining, Joins}

@@ -8,9 +8,9 @@ use native.Mathlib.Decide.{ℕ-discrete}
 use native.Mathlib.Omega.{arith}
 use lib.ListN.{length, getD, take, drop, set, length-append, length-drop, length-set, take-append-drop}
 use lib.Seq.{length-take-le, take-at, drop-at, take-append-le, drop-append-le, take-take, drop-drop, take-add, set-split, getD-take, getD-drop}
-use Rattle.parts.specs.Parts.{part, put}
-use Rattle.adding.specs.Steps.{cellIn}
-use Rattle.parts.proofs.Walk.{part-inside, next-part}
+use Rattle.grid.specs.Parts.{part, put}
+use Rattle.grid.specs.Cells.{cellIn}
+use Rattle.grid.proofs.Places.{part-inside, next-part}
 use Rattle.rules.specs.Limits.{maxAnimals, maxCells}
 
 -- Of two different numbers one is below.

@@ -19,7 +19,7 @@ use Rattle.rules.proofs.Changes.{stands-outcome}
 use Rattle.rules.proofs.Leads.{Departing, found, missing, departing, same-arrival}
 use Rattle.cells.specs.Stored.{orZero}
 use Rattle.cells.proofs.Checks.{stopped, passed}
-use Rattle.pair_cells.proofs.Read.{tick-some}
+use Rattle.tables.proofs.Ticks.{tick-some}
 
 -- The cells of a table that passes its checks rise.
 pub cell-rises : (T : List ℕ) → ValidTable T → (u v : ℕ) → u < animals T → v < animals T → Rising (cellsOf T u v)

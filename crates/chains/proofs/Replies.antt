@@ -31,8 +31,8 @@ use Rattle.checks.specs.declared.Verdict.{Verdict}
 use Rattle.checks.specs.declared.Verdict.the-variants.{Passed, Refused}
 use Rattle.checks.specs.Verdicts.{verdictOf}
 use Rattle.checks.proofs.Groups.{verdict-refused, verdict-passed}
-use Rattle.adding.proofs.Ticks.{Tick, tick-below, latest-tick}
-use Rattle.pair_cells.proofs.Read.{earliest-from-one, latest-from-one, tick-none, tick-some}
+use Rattle.tables.proofs.Ticks.{Tick, tick-below, latest-tick}
+use Rattle.tables.proofs.Ticks.{earliest-from-one, latest-from-one, tick-none, tick-some}
 use Rattle.questions.proofs.Answered.{passes-of}
 use Rattle.chains.specs.Found.{wordsOf, collected, roomCheck, chainChecks}
 

@@ -7,29 +7,6 @@ ghost use Rattle.rules.specs.Layout.{animals, cellsOf};
 ghost use Rattle.rules.specs.Checks.{ValidTable};
 ghost use Rattle.rules.specs.Adding.{stands};
 ghost use Rattle.cells.specs.Stored.{orZero};
-ghost use Rattle.pair_cells.specs.Lent.{Lent};
-
-// Where a cell lies among the words of its table.
-struct Span {
-    start: usize,
-    stop: usize,
-}
-
-// Where cell (u, v) lies.
-fn span_of(table: &[u32], u: u32, v: u32) -> Span
-    requires { ⌜ ValidTable (now table) ⌝ }
-    requires { ⌜ (u < animals (now table)) × (v < animals (now table)) ⌝ }
-    ensures { λ r. ⌜ Lent (now (table .entry)) u v (r .start) (r .stop) ⌝ }
-{
-    let w = table[0];
-    let n = words::animals_of(w) as usize;
-    let size = words::ticks_of(w) as usize + 1;
-    let start = 1 + (u as usize * n + v as usize) * size;
-    Span {
-        start: start,
-        stop: start + size,
-    }
-}
 
 // The earliest arrival in cell (u, v) with departure at least `first`, or 0 where there is none.
 pub fn first_arrival(table: &[u32], u: u32, v: u32, first: u32) -> u32
@@ -37,10 +14,7 @@ pub fn first_arrival(table: &[u32], u: u32, v: u32, first: u32) -> u32
     requires { ⌜ (u < animals (now table)) × (v < animals (now table)) ⌝ }
     ensures { λ r. ⌜ r ≡ orZero (earliestArrival (cellsOf (now (table .entry)) u v) first) ⌝ }
 {
-    let cell = span_of(table, u, v);
-    let start = cell.start;
-    let stop = cell.stop;
-    cells::earliest_arrival(&table[start..stop], first)
+    cells::earliest_arrival(tables::cell(table, u, v), first)
 }
 
 // The latest departure in cell (u, v) with arrival at most `last`, or 0 where there is none.
@@ -49,10 +23,7 @@ pub fn last_departure(table: &[u32], u: u32, v: u32, last: u32) -> u32
     requires { ⌜ (u < animals (now table)) × (v < animals (now table)) ⌝ }
     ensures { λ r. ⌜ r ≡ orZero (latestDeparture (cellsOf (now (table .entry)) u v) last) ⌝ }
 {
-    let cell = span_of(table, u, v);
-    let start = cell.start;
-    let stop = cell.stop;
-    cells::latest_departure(&table[start..stop], last)
+    cells::latest_departure(tables::cell(table, u, v), last)
 }
 
 // Whether [d, a] stands in cell (u, v).
@@ -61,8 +32,5 @@ pub fn stands(table: &[u32], u: u32, v: u32, d: u32, a: u32) -> bool
     requires { ⌜ (u < animals (now table)) × (v < animals (now table)) ⌝ }
     ensures { λ r. ⌜ r ≡ stands (interval d a) (cellsOf (now (table .entry)) u v) ⌝ }
 {
-    let cell = span_of(table, u, v);
-    let start = cell.start;
-    let stop = cell.stop;
-    cells::stands(&table[start..stop], d, a)
+    cells::stands(tables::cell(table, u, v), d, a)
 }

@@ -26,7 +26,7 @@ use Rattle.checks.specs.declared.Verdict.{Verdict}
 use Rattle.checks.specs.declared.Verdict.the-variants.{Passed, Refused}
 use Rattle.checks.specs.Verdicts.{verdictOf}
 use Rattle.checks.proofs.Groups.{table-group, verdict-refused, verdict-passed}
-use Rattle.pair_cells.proofs.Read.{tick-none, tick-some, earliest-from-one, latest-from-one}
+use Rattle.tables.proofs.Ticks.{tick-none, tick-some, earliest-from-one, latest-from-one}
 
 -- ---- what the checks say
 

@@ -14,7 +14,7 @@ use Rattle.rules.specs.Layout.{animals, cellsOf}
 use Rattle.rules.specs.Checks.{ValidTable}
 use Rattle.rules.specs.Questions.{reaches}
 use Rattle.cells.specs.Stored.{orZero}
-use Rattle.pair_cells.proofs.Read.{earliest-from-one, tick-none, tick-some}
+use Rattle.tables.proofs.Ticks.{earliest-from-one, tick-none, tick-some}
 
 -- Without an arrival from `first` on, no interval fits the window.
 window-none : (c : Cell) (first last : ℕ) → earliestArrival c first ≡ none → hasInside (interval first last) c ≡ false

@@ -5,9 +5,10 @@ ghost use Prim.Native.Nat.{_≤_};
 ghost use lib.ListN.{length, replicate};
 ghost use Rattle.rules.specs.Layout.{tableLength, animals, ticks};
 ghost use Rattle.rules.specs.Reading.{isLog};
-ghost use Rattle.rules.specs.Sheet.{isBeyond, logText, tooLarge};
+ghost use Rattle.rules.specs.Sheet.{mostTableWords, isBeyond, logText, tooLarge};
 ghost use Rattle.table_text.specs.Lines.{overwriteFront};
 ghost use Rattle.sheet_text.specs.Prints.{Prints};
+use crate::Sheet;
 use rules::ReadAnswer;
 use tables::Opening;
 
@@ -34,16 +35,16 @@ fn is_beyond(log: &[u32]) -> bool
     if !words::is_opening(w) {
         return false;
     }
-    if words::animals_of(w) > 8 {
+    if words::animals_of(w) > Sheet::MOST_ANIMALS {
         return true;
     }
-    words::ticks_of(w) > 64
+    words::ticks_of(w) > Sheet::MOST_TICKS
 }
 
 // The number of words of the table for a log within the limits; for what is no log, none.
 fn table_size(log: &[u32]) -> usize
     requires { ⌜ isBeyond (now log) ≡ false ⌝ }
-    ensures { λ r. ⌜ r ≤ 4161 ⌝ }
+    ensures { λ r. ⌜ r ≤ mostTableWords ⌝ }
     ensures { λ r. ⌜ (isLog (now (log .entry)) ≡ true → r ≡ tableLength (animals (now (log .entry))) (ticks (now (log .entry)))) ⌝ }
 {
     if log.len() < 2 {
@@ -72,10 +73,10 @@ fn put_read(log: &[u32], table: &mut [u32], out: &mut [u8]) -> usize
 }
 
 // The words of the largest table, all 0.
-fn blank_table() -> [u32; 4161]
-    ensures { λ r. ⌜ r ≡ replicate 4161 0 ⌝ }
+fn blank_table() -> [u32; Sheet::MOST_TABLE_WORDS]
+    ensures { λ r. ⌜ r ≡ replicate mostTableWords 0 ⌝ }
 {
-    [0; 4161]
+    [0; Sheet::MOST_TABLE_WORDS]
 }
 
 // Writes what is printed for the words of a log.

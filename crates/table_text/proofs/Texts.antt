@@ -11,18 +11,20 @@ use Rattle.rules.specs.Layout.{animals, ticks, carry, cellOf, cellsOf}
 use Rattle.rules.specs.Logs.{heldContacts}
 use Rattle.rules.specs.Sheet.{decimal, space, newline, intervalText, intervalsText, cellText, firstLine, tableText}
 use Rattle.rules.proofs.Folds.{flat-same}
-use Rattle.parts.specs.Parts.{part}
-use Rattle.parts.specs.RowsInUse.{rowsIn, RowsFit}
-use Rattle.parts.proofs.Places.{cell-in, cell-of-row}
-use Rattle.parts.proofs.RowsInUse.{rowsFrom, RowLoop, rows-all, rows-next, rows-end, rows-count}
-use Rattle.parts.proofs.TableRead.{Read}
+use Rattle.grid.specs.Parts.{part}
+use Rattle.grid.specs.RowsInUse.{rowsIn}
+use Rattle.grid.proofs.Places.{cell-in, cell-of-row}
+use Rattle.grid.proofs.RowsInUse.{rowsFrom, RowLoop, rows-all, rows-next, rows-end, rows-count}
+use Rattle.grid.proofs.TableRead.{Read}
+use Rattle.cells.specs.Stored.{Stored}
+use Rattle.cells.proofs.Lent.{count-fits}
 use Rattle.table_text.specs.Lines.{cellLine, linesFrom}
 
 -- ---- the rows of a cell
 
 -- The text of the rows that are left: at first of all, then the next row's and that of those after it, at last none.
-pub all-left : (xs : List ℕ) (k : ℕ) → k ≡ rowsIn xs → RowsFit xs → intervalsText (rowsFrom xs (k + 1) 1) ≡ intervalsText (cellOf xs)
-all-left xs k e h = ap intervalsText (rows-all xs k e h)
+pub all-left : (xs : List ℕ) (k : ℕ) → k ≡ rowsIn xs → Stored xs → intervalsText (rowsFrom xs (k + 1) 1) ≡ intervalsText (cellOf xs)
+all-left xs k e h = ap intervalsText (rows-all xs k e (count-fits xs h))
 
 module _ {xs : List ℕ} {e i : ℕ} (w : RowLoop xs e i) where
   pub next-left : i < e → intervalsText (rowsFrom xs e i) ≡ intervalText (intervalOf (getD xs i 0)) ++ intervalsText (rowsFrom xs e (i + 1))
@@ -33,11 +35,11 @@ module _ {xs : List ℕ} {e i : ℕ} (w : RowLoop xs e i) where
   unfolding intervalsText
   none-left h = ap intervalsText (rows-end w h)
 
-module _ (xs : List ℕ) (u v : ℕ) (h : RowsFit xs) where
+module _ (xs : List ℕ) (u v : ℕ) (h : Stored xs) where
   -- An empty cell has no line.
   pub no-line : rowsIn xs ≡ 0 → cellText u v (cellOf xs) ≡ []
   unfolding cellText
-  no-line e = go (cellOf xs) (rows-count xs h ∙ e)
+  no-line e = go (cellOf xs) (rows-count xs (count-fits xs h) ∙ e)
     where
       go : (c : Cell) → length c ≡ 0 → cellText u v c ≡ []
       go [] i = refl
@@ -46,7 +48,7 @@ module _ (xs : List ℕ) (u v : ℕ) (h : RowsFit xs) where
   -- Any other has one.
   pub one-line : (rowsIn xs ≡ 0 → ⊥) → cellText u v (cellOf xs) ≡ decimal u ++ (space ∷ (decimal v ++ (intervalsText (cellOf xs) ++ newline)))
   unfolding cellText
-  one-line n = go (cellOf xs) (λ e. n (sym (rows-count xs h) ∙ e))
+  one-line n = go (cellOf xs) (λ e. n (sym (rows-count xs (count-fits xs h)) ∙ e))
     where
       go : (c : Cell) → (length c ≡ 0 → ⊥) → cellText u v c ≡ decimal u ++ (space ∷ (decimal v ++ (intervalsText c ++ newline)))
       go [] i = absurd (i refl)

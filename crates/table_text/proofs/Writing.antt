@@ -11,7 +11,7 @@ use lib.Seq.{take-all, take-at, drop-at, drop-drop, sets, sets-eq, length-take-l
 use Rattle.journeys.proofs.Tests.{Outcome, holds, fails, lt-outcome}
 use Rattle.rules.specs.Folds.{flat}
 use Rattle.rules.specs.Sheet.{decimal}
-use Rattle.parts.proofs.Reading.{Through, through-start, through-turn}
+use Rattle.grid.proofs.Reading.{Through, through-start, through-turn}
 use Rattle.table_text.specs.Lines.{overwriteFront}
 
 -- Of the text `all` the part before `at` is written, and `rest` is left; from `at` on the list is as it was.

@@ -5,7 +5,7 @@ use lib.ListN.{length, drop}
 use Rattle.rules.specs.Folds.{flat}
 use Rattle.rules.specs.Layout.{cellOf}
 use Rattle.rules.specs.Sheet.{cellText}
-use Rattle.parts.specs.Parts.{part}
+use Rattle.grid.specs.Parts.{part}
 
 -- The text at the front of the list, the rest as it was.
 unfoldable pub overwriteFront : List ℕ → List ℕ → List ℕ

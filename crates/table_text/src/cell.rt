@@ -5,7 +5,7 @@ ghost use lib.ListN.{length};
 ghost use Rattle.words.specs.Words.{intervalOf};
 ghost use Rattle.rules.specs.Layout.{cellOf};
 ghost use Rattle.rules.specs.Sheet.{intervalText, intervalsText, cellText};
-ghost use Rattle.parts.specs.RowsInUse.{RowsFit};
+ghost use Rattle.cells.specs.Stored.{Stored};
 ghost use Rattle.table_text.specs.Lines.{overwriteFront};
 
 // Writes the interval of a row, behind a space.
@@ -21,7 +21,7 @@ fn put_interval(w: u32, out: &mut [u8]) -> usize
 
 // Writes the intervals of a cell's rows in use.
 fn put_intervals(cell: &[u32], out: &mut [u8]) -> usize
-    requires { ⌜ RowsFit (now cell) ⌝ }
+    requires { ⌜ Stored (now cell) ⌝ }
     requires { ⌜ length (intervalsText (cellOf (now cell))) ≤ length (now out) ⌝ }
     ensures { λ r. ⌜ r ≡ length (intervalsText (cellOf (now (cell .entry)))) ⌝ }
     ensures { λ _. ⌜ now (out .exit) ≡ overwriteFront (intervalsText (cellOf (now (cell .entry)))) (now (out .entry)) ⌝ }
@@ -36,7 +36,7 @@ fn put_intervals(cell: &[u32], out: &mut [u8]) -> usize
 
 // Writes the line of cell (u, v); an empty cell has none.
 pub(crate) fn put_cell(cell: &[u32], u: u32, v: u32, out: &mut [u8]) -> usize
-    requires { ⌜ RowsFit (now cell) ⌝ }
+    requires { ⌜ Stored (now cell) ⌝ }
     requires { ⌜ length (cellText u v (cellOf (now cell))) ≤ length (now out) ⌝ }
     ensures { λ r. ⌜ r ≡ length (cellText u v (cellOf (now (cell .entry)))) ⌝ }
     ensures { λ _. ⌜ now (out .exit) ≡ overwriteFront (cellText u v (cellOf (now (cell .entry)))) (now (out .entry)) ⌝ }

@@ -1,2 +1,4 @@
 pub mod Openings
-pub mod Rows
+pub mod Cells
+pub mod Stored
+pub mod Ticks

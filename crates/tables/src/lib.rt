@@ -1,18 +1,18 @@
-// The opening of a table with its limits, the checks of an open table, and the words of a table just opened.
+// The opening of a table with its limits, the checks of an open table, its cells, and the words of a table just opened.
 ghost use mathlib.Core.Path.{_≡_};
 ghost use mathlib.Core.Bool.{true};
 ghost use mathlib.Core.List.{[]};
-ghost use Prim.Native.Nat.{_+_, _-_, _*_, _≤_};
+ghost use Prim.Native.Nat.{_+_, _-_, _*_, _≤_, _<_};
 ghost use lib.ListN.{length};
 ghost use Rattle.words.specs.Words.{animalsOf, ticksOf, carryOf};
 ghost use Rattle.rules.specs.Limits.{maxAnimals, maxTicks, maxCarry};
 ghost use Rattle.rules.specs.Folds.{within};
-ghost use Rattle.rules.specs.Layout.{tableLength, cellWords, tableWords};
-ghost use Rattle.rules.specs.Checks.{isOpen, wellFormed};
+ghost use Rattle.rules.specs.Layout.{tableLength, cellWords, tableWords, animals, ticks, cellAt};
+ghost use Rattle.rules.specs.Checks.{isOpen, wellFormed, ValidTable};
 ghost use Rattle.rules.specs.Opening.{Sizes, noIntervals};
-ghost use Rattle.parts.specs.Parts.{parts};
+ghost use Rattle.grid.specs.Parts.{parts};
 ghost use Rattle.tables.specs.Openings.{made};
-ghost use Rattle.tables.specs.Rows.{mostRows, cellsFromWellFormed, allCellsWellFormed, emptied};
+ghost use Rattle.tables.specs.Cells.{mostRows, cellsFromWellFormed, allCellsWellFormed, emptied};
 use rules::Refusal;
 
 // The opening of a table: how many animals, how many ticks, and the carry time.
@@ -117,17 +117,17 @@ fn most_rows(u: usize, v: usize, ticks: u32) -> u32
     ticks
 }
 
-// Whether the n cells of the row of animal u are well formed.
-fn cells_from_well_formed(row: &[u32], u: usize, n: usize, ticks: u32, carry: u32) -> bool
-    requires { ⌜ (ticks ≤ maxTicks) × (carry ≤ maxCarry) × (n * (ticks + 1) ≤ length (now row)) ⌝ }
-    ensures { λ r. ⌜ r ≡ cellsFromWellFormed ticks carry n u (now (row .entry)) ⌝ }
+// Whether the n cells from u are well formed.
+fn cells_from_well_formed(cells: &[u32], u: usize, n: usize, ticks: u32, carry: u32) -> bool
+    requires { ⌜ (ticks ≤ maxTicks) × (carry ≤ maxCarry) × (n * (ticks + 1) ≤ length (now cells)) ⌝ }
+    ensures { λ r. ⌜ r ≡ cellsFromWellFormed ticks carry n u (now (cells .entry)) ⌝ }
 {
     let size = ticks as usize + 1;
     let mut at = 0;
     for v in 0..n {
         let end = at + size;
         let most = most_rows(u, v, ticks);
-        if !cells::is_well_formed(&row[at..end], ticks, carry, most) {
+        if !cells::is_well_formed(&cells[at..end], ticks, carry, most) {
             return false;
         }
         at = end;
@@ -135,7 +135,7 @@ fn cells_from_well_formed(row: &[u32], u: usize, n: usize, ticks: u32, carry: u3
     true
 }
 
-// Whether the n rows of n cells are well formed.
+// Whether the n cells from each of n animals are well formed.
 fn all_cells_well_formed(body: &[u32], n: usize, ticks: u32, carry: u32) -> bool
     requires { ⌜ (n ≤ maxAnimals) × (ticks ≤ maxTicks) × (carry ≤ maxCarry) × (n * (n * (ticks + 1)) ≤ length (now body)) ⌝ }
     ensures { λ r. ⌜ r ≡ allCellsWellFormed ticks carry n (now (body .entry)) ⌝ }
@@ -159,6 +159,22 @@ pub fn well_formed(table: &[u32]) -> bool
 {
     let o = Opening::of_word(table[0]);
     all_cells_well_formed(&table[1..], o.animals as usize, o.ticks, o.carry)
+}
+
+// The words of cell (u, v).
+pub fn cell(table: &[u32], u: u32, v: u32) -> &[u32]
+    requires { ⌜ ValidTable (now table) ⌝ }
+    requires { ⌜ (u < animals (now table)) × (v < animals (now table)) ⌝ }
+    ensures { λ r. ⌜ now r ≡ cellAt (animals (now (table .entry))) (ticks (now (table .entry))) (now (table .entry)) u v ⌝ }
+{
+    let o = Opening::of_word(table[0]);
+    grid::cell(
+        &table[1..],
+        o.animals as usize,
+        o.ticks as usize + 1,
+        u as usize,
+        v as usize,
+    )
 }
 
 // Writes an empty cell: a count of no rows, and unused words.

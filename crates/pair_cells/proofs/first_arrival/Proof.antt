@@ -1,20 +1,18 @@
 -- `first_arrival` meets its contract: the cell read is the one from u to v.
 use borrow.Author.Needs.{needs}
-use Rattle.pair_cells.proofs.Read.{arrival-read}
+use Rattle.journeys.specs.Cell.{earliestArrival}
+use Rattle.cells.specs.Stored.{orZero}
+use Rattle.tables.proofs.Stored.{cell-read, lent-stored}
 use Rattle.pair_cells.proofs.first_arrival.Statement.{statement}
 use Rattle.pair_cells.proofs.first_arrival.Tie as tie
 
 earliest-arrival-requires : tie.Need-earliest-arrival-requires
-earliest-arrival-requires c κs = c .before .span-of .ensures .stored
+earliest-arrival-requires c κs =
+    let s = c .before .before in
+    lent-stored (s .args .table .now) (s .pre .0) (s .args .u) (s .args .v) (s .pre .1 .0) (s .pre .1 .1) (c .cell .ensures)
 
 returns : tie.Need-returns
-returns c =
-    let f = c .before .before in
-    let a = f .before .before .args in
-    arrival-read (a .table .now) (a .u) (a .v) (a .first) _ _ (f .span-of .ensures .words) (c .earliest-arrival .ensures)
+returns c = let a = c .before .before .before .args in cell-read (λ d. orZero (earliestArrival d (a .first))) (a .table .now) (a .u) (a .v) _ (c .before .cell .ensures) (c .earliest-arrival .ensures)
 
 pub first-arrival-spec : {M : Type 1} → statement M
-first-arrival-spec =
-    tie.close
-    (tie.spec
-    (λ c κs. search needs) (λ c. search needs) (λ c. search needs) (λ c. search needs) (λ c. search needs) earliest-arrival-requires returns)
+first-arrival-spec = tie.close (tie.spec (λ c κs. search needs) earliest-arrival-requires returns)

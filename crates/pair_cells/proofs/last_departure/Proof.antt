@@ -1,20 +1,18 @@
 -- `last_departure` meets its contract: the cell read is the one from u to v.
 use borrow.Author.Needs.{needs}
-use Rattle.pair_cells.proofs.Read.{departure-read}
+use Rattle.journeys.specs.Cell.{latestDeparture}
+use Rattle.cells.specs.Stored.{orZero}
+use Rattle.tables.proofs.Stored.{cell-read, lent-stored}
 use Rattle.pair_cells.proofs.last_departure.Statement.{statement}
 use Rattle.pair_cells.proofs.last_departure.Tie as tie
 
 latest-departure-requires : tie.Need-latest-departure-requires
-latest-departure-requires c κs = c .before .span-of .ensures .stored
+latest-departure-requires c κs =
+    let s = c .before .before in
+    lent-stored (s .args .table .now) (s .pre .0) (s .args .u) (s .args .v) (s .pre .1 .0) (s .pre .1 .1) (c .cell .ensures)
 
 returns : tie.Need-returns
-returns c =
-    let f = c .before .before in
-    let a = f .before .before .args in
-    departure-read (a .table .now) (a .u) (a .v) (a .last) _ _ (f .span-of .ensures .words) (c .latest-departure .ensures)
+returns c = let a = c .before .before .before .args in cell-read (λ d. orZero (latestDeparture d (a .last))) (a .table .now) (a .u) (a .v) _ (c .before .cell .ensures) (c .latest-departure .ensures)
 
 pub last-departure-spec : {M : Type 1} → statement M
-last-departure-spec =
-    tie.close
-    (tie.spec
-    (λ c κs. search needs) (λ c. search needs) (λ c. search needs) (λ c. search needs) (λ c. search needs) latest-departure-requires returns)
+last-departure-spec = tie.close (tie.spec (λ c κs. search needs) latest-departure-requires returns)

@@ -7,8 +7,9 @@ use borrow.Author.Needs.{needs}
 use lib.ListN.{length, take, drop}
 use Rattle.rules.specs.Folds.{flat}
 use Rattle.rules.specs.Sheet.{firstLine, tableText}
-use Rattle.parts.proofs.Places.{rest-lent}
-use Rattle.parts.proofs.TableRead.{Read, table-opened, read-cells}
+use Rattle.grid.proofs.Places.{rest-lent}
+use Rattle.grid.proofs.TableRead.{Read, table-opened}
+use Rattle.tables.proofs.Stored.{lent-cells}
 use Rattle.table_text.specs.Lines.{linesFrom}
 use Rattle.table_text.proofs.Writing.{Writing, back, inside, fits-whole, first, fits-last, last, end}
 use Rattle.table_text.proofs.Texts.{table-text}
@@ -82,7 +83,7 @@ put-all-cells-requires : tie.Need-put-all-cells-requires
 put-all-cells-requires c κs =
     let p = titled (c .before) in
     let r = numbers p in
-    (read-cells (T r) (entry r .pre .0) (read r), fits-last (wrote1 p) (lines r) refl)
+    (lent-cells (T r) (entry r .pre .0) _ _ (read r .animals-is) (read r .size-is), fits-last (wrote1 p) (lines r) refl)
 
 pub put-table-spec : {M : Type 1} → statement M
 put-table-spec =

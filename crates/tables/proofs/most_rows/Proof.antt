@@ -2,7 +2,7 @@
 use native.Mathlib.Omega.{arith}
 use mathlib.Core.Path.{refl}
 use borrow.Author.Tests.{eq-eqb, ne-eqb}
-use Rattle.tables.specs.Rows.{mostRows}
+use Rattle.tables.specs.Cells.{mostRows}
 use Rattle.tables.proofs.most_rows.Statement.{statement}
 use Rattle.tables.proofs.most_rows.Tie as tie
 

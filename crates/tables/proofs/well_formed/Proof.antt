@@ -1,11 +1,11 @@
--- `well_formed` meets its contract: the opening word says how the words after it lie in rows of cells.
+-- `well_formed` meets its contract: the opening word says how the words after it lie in cells.
 use native.Mathlib.Omega.{arith}
 use borrow.Author.Needs.{needs}
 use mathlib.Core.Path.{_∙_}
 use lib.ListN.{getD}
 use Rattle.words.proofs.Packed.{animalsOf-bound, ticksOf-bound, carryOf-bound}
 use Rattle.rules.proofs.Sound.{opens-length}
-use Rattle.tables.proofs.Rows.{rows-inside, rows-formed}
+use Rattle.tables.proofs.Cells.{cells-inside, cells-formed}
 use Rattle.tables.proofs.well_formed.Statement.{statement}
 use Rattle.tables.proofs.well_formed.Tie as tie
 
@@ -24,7 +24,7 @@ all-cells-well-formed-requires c κs =
     let s = o .before .before .before in
     let e = o .of-word .ensures in
     let w = getD (s .args .table .now) 0 0 in
-    let r = rows-inside (s .args .table .now) _ _ _ (e .0) (e .1) (e .2) (s .pre) in
+    let r = cells-inside (s .args .table .now) _ _ _ (e .0) (e .1) (e .2) (s .pre) in
     (omega (arith, animalsOf-bound w), omega (arith, ticksOf-bound w), omega (arith, carryOf-bound w), r)
 
 returns : tie.Need-returns
@@ -32,7 +32,7 @@ returns c =
     let o = c .before .before .before in
     let s = o .before .before .before in
     let e = o .of-word .ensures in
-    c .all-cells-well-formed .ensures ∙ rows-formed (s .args .table .now) _ _ _ (e .0) (e .1) (e .2)
+    c .all-cells-well-formed .ensures ∙ cells-formed (s .args .table .now) _ _ _ (e .0) (e .1) (e .2)
 
 pub well-formed-spec : {M : Type 1} → statement M
 well-formed-spec =

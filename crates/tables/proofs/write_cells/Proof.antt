@@ -1,10 +1,10 @@
 -- `write_cells` meets its contract. The loop's invariant: the first k cells are empty. The measure is the number of cells left.
---
 use native.Mathlib.Omega.{arith}
 use Prim.Native.Nat.{_+_, _-_, _≤_}
 use lib.ListN.{length}
-use Rattle.parts.proofs.Walk.{lent-length, Walk, walk-start, walk-room, walk-turn, walk-end}
-use Rattle.tables.specs.Rows.{emptied}
+use Rattle.grid.proofs.Places.{lent-length}
+use Rattle.grid.proofs.Walk.{Walk, walk-start, walk-room, walk-turn, walk-end}
+use Rattle.tables.specs.Cells.{emptied}
 use Rattle.tables.proofs.write_cells.Statement.{statement}
 use Rattle.tables.proofs.write_cells.Tie as tie
 
@@ -17,27 +17,19 @@ abbrev μ-loop : tie.MeasureT-loop
 loop-holds : tie.Need-loop-holds Inv-loop μ-loop
 loop-holds c = walk-start _ _ _ _
 
+-- The start, from inside the loop.
+abbrev entry : tie.In-loop Inv-loop μ-loop → tie.Start Inv-loop μ-loop
+entry c = c .before .before .before
+
 -- The next cell lies inside the body.
-room : (c : tie.In-loop Inv-loop μ-loop) → c .before .loop .at + c .before .before .before .args .size ≤ length (c .before .before .before .args .body .now)
-room c =
-    let l = c .before in
-    omega (arith, l .loop .inv .len, walk-room (l .loop .inv) (omega arith) (omega arith))
-
-add-end : tie.Need-add-end Inv-loop μ-loop
-add-end c = omega (arith, room c)
-
-mul-write-empty : tie.Need-mul-write-empty Inv-loop μ-loop
-mul-write-empty c = omega (arith, room c)
-
-part-write-empty-end : tie.Need-part-write-empty-end Inv-loop μ-loop
-part-write-empty-end c = omega (arith, room c)
+room : (c : tie.In-loop Inv-loop μ-loop) → c .before .loop .at + entry c .args .size ≤ length (entry c .args .body .now)
+room c = let i = c .before .loop .inv in omega (arith, i .len, walk-room i (omega (arith, entry c .pre)) (omega arith))
 
 write-empty-requires : tie.Need-write-empty-requires Inv-loop μ-loop
 write-empty-requires c κs =
     let t = c .before in
     let l = t .before in
-    let s = l .before .before in
-    omega (arith, lent-length (l .loop .body) (l .loop .at) (s .args .size) (omega (arith, room t)))
+    omega (arith, entry t .pre, lent-length (l .loop .body) (l .loop .at) (entry t .args .size) (omega (arith, room t, l .loop .inv .len)))
 
 loop-again : tie.Need-loop-again Inv-loop μ-loop
 unfolding emptied
@@ -56,5 +48,5 @@ pub write-cells-spec : {M : Type 1} → statement M
 write-cells-spec =
     tie.close
     (tie.spec
-    Inv-loop μ-loop loop-holds add-end mul-write-empty (λ c. omega arith) (λ c. omega arith) part-write-empty-end write-empty-requires
-    (λ c. omega arith) (λ c. omega arith) loop-again same-length returns)
+    Inv-loop μ-loop loop-holds (λ c. omega (arith, room c)) (λ c. omega (arith, room c)) (λ c. omega arith) (λ c. omega arith)
+    (λ c. omega (arith, room c, c .before .loop .inv .len)) write-empty-requires (λ c. omega arith) (λ c. omega arith) loop-again same-length returns)

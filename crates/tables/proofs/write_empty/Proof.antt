@@ -1,5 +1,4 @@
 -- `write_empty` meets its contract. The loop's invariant: the first i words are those of an empty cell. The measure is the number of words left.
---
 use native.Mathlib.Omega.{arith}
 use borrow.Author.Needs.{needs}
 use Prim.Native.Nat.{_-_}
@@ -7,7 +6,7 @@ use mathlib.Core.List.{[]}
 use mathlib.Core.Path.{ap, _∙_}
 use lib.ListN.{length, length-set}
 use Rattle.rules.specs.Layout.{cellWords}
-use Rattle.tables.proofs.Rows.{Emptied, emptied-start, emptied-turn, emptied-end}
+use Rattle.tables.proofs.Cells.{Emptied, emptied-start, emptied-turn, emptied-end}
 use Rattle.tables.proofs.write_empty.Statement.{statement}
 use Rattle.tables.proofs.write_empty.Tie as tie
 

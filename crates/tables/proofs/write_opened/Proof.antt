@@ -5,7 +5,8 @@ use Prim.Native.Nat.{_-_}
 use mathlib.Core.Path.{_∙_}
 use lib.ListN.{length, set, length-set}
 use borrow.Rule.Slice.PartMut.{same-len-mid}
-use Rattle.tables.proofs.Rows.{rest-length, opened-table}
+use Rattle.tables.proofs.Cells.{opened-table}
+use Rattle.grid.proofs.Places.{rest-length}
 use Rattle.tables.proofs.write_opened.Statement.{statement}
 use Rattle.tables.proofs.write_opened.Tie as tie
 

@@ -3,7 +3,7 @@ use borrow.Author.Needs.{needs}
 use mathlib.Core.Path.{sym, ap, subst}
 use lib.ListN.{length}
 use native.Mathlib.Omega.{arith}
-use Rattle.parts.proofs.Walk.{lent-length}
+use Rattle.grid.proofs.Places.{lent-length}
 use Rattle.building.specs.Last.{InUse}
 use Rattle.building.proofs.Places.{lies}
 use Rattle.building.proofs.Joined.{join-spread, join-goal, join-none, join-tick, join-done}

@@ -86,7 +86,7 @@ pub put-cell-spec : {M : Type 1} → statement M
 put-cell-spec =
     tie.close
     (tie.spec
-    (λ c. omega (arith, c .before .before .before .pre .0)) (λ c κs. search needs) returns put-then-requires
+    (λ c. omega (arith, c .before .before .before .pre .0 .long)) (λ c κs. search needs) returns put-then-requires
     (λ c. omega (arith, inside (wrote1 (c .before .before)))) (λ c. omega (arith, inside (wrote1 (c .before .before)))) (λ c. search needs)
     put-number-requires (λ c. omega (arith, inside (wrote2 (c .before .before)))) (λ c. omega (arith, inside (wrote2 (c .before .before))))
     (λ c. omega (arith, inside (wrote2 (c .before .before)))) (λ c. search needs) put-intervals-requires

@@ -7,7 +7,8 @@ use lib.ListN.{getD}
 use Rattle.words.specs.Words.{intervalOf}
 use Rattle.rules.specs.Layout.{cellOf}
 use Rattle.rules.specs.Sheet.{intervalText, intervalsText}
-use Rattle.parts.proofs.RowsInUse.{rowsFrom, RowLoop, rows-begin, rows-turn}
+use Rattle.grid.proofs.RowsInUse.{rowsFrom, RowLoop, rows-begin, rows-turn}
+use Rattle.cells.proofs.Lent.{count-fits}
 use Rattle.table_text.proofs.Writing.{Writing, back, inside, start, fits, piece, end}
 use Rattle.table_text.proofs.Texts.{all-left, next-left, none-left}
 use Rattle.table_text.proofs.cell.put_intervals.Statement.{statement}
@@ -34,7 +35,7 @@ loop-holds c =
     let s = begin c in
     let x = s .args .cell .now in
     let e = c .rows-of .ensures in
-    (rows-begin x _ e (s .pre .0), start _ _ _ (all-left x _ e (s .pre .0)) (s .pre .1))
+    (rows-begin x _ e (count-fits x (s .pre .0)), start _ _ _ (all-left x _ e (s .pre .0)) (s .pre .1))
 
 put-interval-requires : tie.Need-put-interval-requires Inv-loop μ-loop
 put-interval-requires c κs =
@@ -60,7 +61,7 @@ pub put-intervals-spec : {M : Type 1} → statement M
 put-intervals-spec =
     tie.close
     (tie.spec
-    Inv-loop μ-loop (λ c. omega arith) (λ c κs. search needs) (λ c. omega arith) (λ c. omega arith) loop-holds (λ c. omega arith) (λ c. omega arith)
+    Inv-loop μ-loop (λ c. omega (arith, c .before .before .before .pre .0 .long)) (λ c κs. search needs) (λ c. omega arith) (λ c. omega arith) loop-holds (λ c. omega arith) (λ c. omega arith)
     (λ c. omega (arith, inside (c .before .before .loop .inv .1))) (λ c. omega (arith, inside (c .before .before .loop .inv .1))) (λ c. search needs)
     put-interval-requires (λ c. omega (arith, inside (wrote (c .before .before)))) (λ c. omega arith) (λ c. omega arith) loop-again
     (λ c. c .before .loop .inv .1 .kept) (λ c. end (c .before .loop .inv .1) (none-left (c .before .loop .inv .0) (c .loop-test .left))))
