@@ -1,4 +1,4 @@
-pub mod Steps
-pub mod Placed
-pub mod Table
-pub mod Written
+pub mod Passes
+pub mod SortedByTick
+pub mod TableContacts
+pub mod WholeLog

@@ -16,16 +16,26 @@ use Rattle.rules.specs.Layout.{tableLength, animals, ticks, carry, cells
 use Rattle.rules.specs.Logs.{heldContacts}
 use Rattle.rules.specs.Reading.{readAnswer, readLeaves}
 
--- ---- its limits: 4,096 words of four bytes, n at most 8, τ at most 64
+-- ---- its limits: 4,096 words of four bytes, n at most 8, τ at most 64, and a text of 32,768 bytes
+
+abbrev pub mostWords : ℕ
+mostWords = 4096
 
 abbrev pub mostBytes : ℕ
-mostBytes = 16384
+mostBytes = 4 * mostWords
 
 abbrev pub mostAnimals : ℕ
 mostAnimals = 8
 
 abbrev pub mostTicks : ℕ
 mostTicks = 64
+
+abbrev pub mostText : ℕ
+mostText = 32768
+
+-- The words of the largest table.
+abbrev pub mostTableWords : ℕ
+mostTableWords = tableLength mostAnimals mostTicks
 
 -- ---- words in files
 

@@ -22,12 +22,12 @@ use Rattle.rules.specs.Layout.{tableLength, animals, ticks}
 use Rattle.rules.specs.Checks.{ValidTable}
 use Rattle.rules.specs.Logs.{heldContacts}
 use Rattle.rules.specs.Reading.{isLog, readRefusal, readAnswer, readLeaves}
-use Rattle.rules.specs.Sheet.{mostBytes, wordsOf, isBeyond, readText, logText, tableText, refusedText, tooLarge, notWholeWords, sheetText}
+use Rattle.rules.specs.Sheet.{mostBytes, mostAnimals, mostTicks, mostText, mostTableWords, wordsOf, isBeyond, readText, logText, tableText, refusedText, tooLarge, notWholeWords, sheetText}
 use Rattle.rules.proofs.Folds.{and-left, and-right}
 use Rattle.rules.proofs.Demand1.{demand1}
 use Rattle.rules.proofs.LogsRead.{read-held}
 use Rattle.cells.proofs.Checks.{stopped, passed}
-use Rattle.table_text.specs.Onto.{onto}
+use Rattle.table_text.specs.Lines.{overwriteFront}
 use Rattle.table_text.proofs.Lengths.{sheet-fits}
 use Rattle.sheet_text.specs.Prints.{Prints}
 use Rattle.sheet_text.proofs.Words.{words-length}
@@ -51,20 +51,20 @@ module _ (L : List ℕ) (a : Bool) (e : a ≡ isOf openingLayout (getD L 0 0)) w
   beyond-other h = rw (stopped e h) refl
 
   module _ (h : not a ≡ false) (n : ℕ) (p : n ≡ animals L) where
-    pub beyond-animals : 8 < n → true ≡ isBeyond L
+    pub beyond-animals : mostAnimals < n → true ≡ isBeyond L
     unfolding isBeyond
-    beyond-animals k = rw (passed e h, lt-leb (animals L) 8 (subst (λ i. 8 < i) p k)) refl
+    beyond-animals k = rw (passed e h, lt-leb (animals L) mostAnimals (subst (λ i. mostAnimals < i) p k)) refl
 
-    pub beyond-ticks : n ≤ 8 → (τ : ℕ) → τ ≡ ticks L → ltb 64 τ ≡ isBeyond L
+    pub beyond-ticks : n ≤ mostAnimals → (τ : ℕ) → τ ≡ ticks L → ltb mostTicks τ ≡ isBeyond L
     unfolding isBeyond
-    beyond-ticks k τ q = rw (passed e h, le-leb (animals L) 8 (subst (λ i. i ≤ 8) p k), q) (other (ticks L))
+    beyond-ticks k τ q = rw (passed e h, le-leb (animals L) mostAnimals (subst (λ i. i ≤ mostAnimals) p k), q) (other (ticks L))
       where
-        other : (i : ℕ) → ltb 64 i ≡ not (leb i 64)
-        other i = go (le-outcome i 64)
+        other : (i : ℕ) → ltb mostTicks i ≡ not (leb i mostTicks)
+        other i = go (le-outcome i mostTicks)
           where
-            go : {b : Bool} → Outcome (i ≤ 64) (64 < i) b → ltb 64 i ≡ not b
-            go (holds k) = le-ltb 64 i k
-            go (fails k) = lt-ltb 64 i k
+            go : {b : Bool} → Outcome (i ≤ mostTicks) (mostTicks < i) b → ltb mostTicks i ≡ not b
+            go (holds k) = le-ltb mostTicks i k
+            go (fails k) = lt-ltb mostTicks i k
 
 -- ---- the table
 
@@ -79,19 +79,19 @@ module _ (L : List ℕ) (a : Bool) (e : a ≡ isOf openingLayout (getD L 0 0)) w
   pub size-other : not a ≡ true → (r : ℕ) → isLog L ≡ true → r ≡ tableLength (animals L) (ticks L)
   size-other h r q = untrue (sym (stopped e h) ∙ and-right (leb 2 (length L)) (isOf openingLayout (getD L 0 0)) q)
 
-  -- Within the limits a table has at most 4,161 words.
-  pub size-small : not a ≡ false → isBeyond L ≡ false → tableLength (animals L) (ticks L) ≤ 4161
+  -- Within the limits a table has no more words than the largest.
+  pub size-small : not a ≡ false → isBeyond L ≡ false → tableLength (animals L) (ticks L) ≤ mostTableWords
   unfolding isBeyond
-  size-small h q = go (animals L) (ticks L) (leb-true (animals L) 8 (and-left (leb (animals L) 8) (leb (ticks L) 64) inside)) (leb-true (ticks L) 64 (and-right (leb (animals L) 8) (leb (ticks L) 64) inside))
+  size-small h q = go (animals L) (ticks L) (leb-true (animals L) mostAnimals (and-left (leb (animals L) mostAnimals) (leb (ticks L) mostTicks) inside)) (leb-true (ticks L) mostTicks (and-right (leb (animals L) mostAnimals) (leb (ticks L) mostTicks) inside))
     where
-      inside : (leb (animals L) 8 && leb (ticks L) 64) ≡ true
-      inside = not-false _ (subst (λ b. (b && not (leb (animals L) 8 && leb (ticks L) 64)) ≡ false) (passed e h) q)
+      inside : (leb (animals L) mostAnimals && leb (ticks L) mostTicks) ≡ true
+      inside = not-false _ (subst (λ b. (b && not (leb (animals L) mostAnimals && leb (ticks L) mostTicks)) ≡ false) (passed e h) q)
 
-      go : (n τ : ℕ) → n ≤ 8 → τ ≤ 64 → tableLength n τ ≤ 4161
+      go : (n τ : ℕ) → n ≤ mostAnimals → τ ≤ mostTicks → tableLength n τ ≤ mostTableWords
       go n τ k m =
-          let x : n * n ≤ 8 * 8 = mul-le-mul {n₂ = 8} k k in
-          let t : τ + 1 ≤ 65 = omega arith in
-          let y : n * n * (τ + 1) ≤ 64 * 65 = mul-le-mul x t in
+          let x : n * n ≤ mostAnimals * mostAnimals = mul-le-mul {n₂ = mostAnimals} k k in
+          let t : τ + 1 ≤ mostTicks + 1 = omega arith in
+          let y : n * n * (τ + 1) ≤ mostAnimals * mostAnimals * (mostTicks + 1) = mul-le-mul x t in
           omega arith
 
 take-replicate : (k m : ℕ) → k ≤ m → take k (replicate {A = ℕ} m 0) ≡ replicate k 0
@@ -100,7 +100,7 @@ take-replicate (suc k) zero h = absurd (omega arith)
 take-replicate (suc k) (suc m) h = ap (λ (l : List ℕ). 0 ∷ l) (take-replicate k m (omega arith))
 
 -- The words of a table that is long enough print the log.
-pub prints : (L : List ℕ) (r : ℕ) → r ≤ 4161 → (isLog L ≡ true → r ≡ tableLength (animals L) (ticks L)) → Prints L (take r (replicate {A = ℕ} 4161 0))
+pub prints : (L : List ℕ) (r : ℕ) → r ≤ mostTableWords → (isLog L ≡ true → r ≡ tableLength (animals L) (ticks L)) → Prints L (take r (replicate {A = ℕ} mostTableWords 0))
 unfolding logText
 prints L r h f = go (isLog L) refl
   where
@@ -110,8 +110,8 @@ prints L r h f = go (isLog L) refl
     refused : isLog L ≡ false → (T : List ℕ) → readText (readAnswer L T) (readLeaves L T) ≡ refusedText (numberOf NotALog)
     refused q T = ap (λ (x : ReadAnswer). readText x (readLeaves L T)) (no-log L T q)
 
-    go : (b : Bool) → isLog L ≡ b → readText (readAnswer L (take r (replicate {A = ℕ} 4161 0))) (readLeaves L (take r (replicate {A = ℕ} 4161 0))) ≡ readText (readAnswer L zeros) (readLeaves L zeros)
-    go true q = ap (λ (T : List ℕ). readText (readAnswer L T) (readLeaves L T)) (take-replicate r 4161 h ∙ ap (λ (i : ℕ). replicate {A = ℕ} i 0) (f q))
+    go : (b : Bool) → isLog L ≡ b → readText (readAnswer L (take r (replicate {A = ℕ} mostTableWords 0))) (readLeaves L (take r (replicate {A = ℕ} mostTableWords 0))) ≡ readText (readAnswer L zeros) (readLeaves L zeros)
+    go true q = ap (λ (T : List ℕ). readText (readAnswer L T) (readLeaves L T)) (take-replicate r mostTableWords h ∙ ap (λ (i : ℕ). replicate {A = ℕ} i 0) (f q))
     go false q = refused q _ ∙ sym (refused q zeros)
 
 -- ---- what reading answered
@@ -130,8 +130,8 @@ module _ (L T : List ℕ) (g : Prints L T) (x : ReadAnswer) (e : x ≡ readAnswe
 -- ---- one text for another
 
 -- What was written of a text was written of an equal one.
-pub put-as : (s t out new : List ℕ) (k : ℕ) → s ≡ t → k ≡ length t → new ≡ onto t out → (k ≡ length s) × (new ≡ onto s out)
-put-as s t out new k e f g = (f ∙ ap length (sym e), g ∙ ap (λ (x : List ℕ). onto x out) (sym e))
+pub put-as : (s t out new : List ℕ) (k : ℕ) → s ≡ t → k ≡ length t → new ≡ overwriteFront t out → (k ≡ length s) × (new ≡ overwriteFront s out)
+put-as s t out new k e f g = (f ∙ ap length (sym e), g ∙ ap (λ (x : List ℕ). overwriteFront x out) (sym e))
 
 -- What has room for a text has room for an equal one.
 pub room-as : (s t out : List ℕ) → s ≡ t → length s ≤ length out → length t ≤ length out
@@ -150,19 +150,19 @@ pub words-within : (L : List ℕ) (b : Bool) → b ≡ isBeyond L → b ≡ fals
 words-within L b e h = rw (sym e ∙ h) refl
 
 -- The part of a blank table that is lent has its size, and prints the log.
-pub lent-blank : (r : ℕ) (T : List ℕ) → T ≡ replicate {A = ℕ} 4161 0 → r ≤ 4161 → r ≡ length (take r T)
-lent-blank r T e h = sym (length-take-le r T (omega (arith, ap length e, length-replicate {A = ℕ} 4161 0)))
+pub lent-blank : (r : ℕ) (T : List ℕ) → T ≡ replicate {A = ℕ} mostTableWords 0 → r ≤ mostTableWords → r ≡ length (take r T)
+lent-blank r T e h = sym (length-take-le r T (omega (arith, ap length e, length-replicate {A = ℕ} mostTableWords 0)))
 
-pub lent-prints : (L : List ℕ) (r : ℕ) (T : List ℕ) → T ≡ replicate {A = ℕ} 4161 0 → r ≤ 4161 → (isLog L ≡ true → r ≡ tableLength (animals L) (ticks L)) → Prints L (take r T)
+pub lent-prints : (L : List ℕ) (r : ℕ) (T : List ℕ) → T ≡ replicate {A = ℕ} mostTableWords 0 → r ≤ mostTableWords → (isLog L ≡ true → r ≡ tableLength (animals L) (ticks L)) → Prints L (take r T)
 lent-prints L r T e h f = subst (λ (U : List ℕ). Prints L (take r U)) (sym e) (prints L r h f)
 
 -- ---- the bytes
 
-pub sheet-large : (B : List ℕ) → 16384 < length B → sheetText B ≡ tooLarge
+pub sheet-large : (B : List ℕ) → mostBytes < length B → sheetText B ≡ tooLarge
 unfolding sheetText
 sheet-large B h = rw (lt-ltb mostBytes (length B) h) refl
 
-module _ (B : List ℕ) (h : length B ≤ 16384) where
+module _ (B : List ℕ) (h : length B ≤ mostBytes) where
   pub sheet-broken : (length B % 4 ≡ 0 → ⊥) → sheetText B ≡ notWholeWords
   unfolding sheetText
   sheet-broken d = rw (le-ltb mostBytes (length B) h, ne-eqb (length B % 4) 0 d) refl
@@ -172,15 +172,15 @@ module _ (B : List ℕ) (h : length B ≤ 16384) where
   sheet-words d = rw (le-ltb mostBytes (length B) h, eq-eqb (length B % 4) 0 d) refl
 
 -- The words of whole words, taken back from where they were written.
-pub words-lent : (B l out : List ℕ) (k : ℕ) → length B % 4 ≡ 0 → k ≡ length B / 4 → out ≡ onto (wordsOf B) l → take k out ≡ wordsOf B
-unfolding onto
+pub words-lent : (B l out : List ℕ) (k : ℕ) → length B % 4 ≡ 0 → k ≡ length B / 4 → out ≡ overwriteFront (wordsOf B) l → take k out ≡ wordsOf B
+unfolding overwriteFront
 words-lent B l out k d e f = ap (take k) f ∙ take-at (wordsOf B) (drop (length (wordsOf B)) l) k (words-length B d ∙ sym e)
 
 -- The text that is shown lies inside its bytes.
-pub shown-inside : (B text : List ℕ) (k : ℕ) → k ≡ length (sheetText B) → text ≡ onto (sheetText B) (replicate {A = ℕ} 32768 0) → (k ≤ length text) × (k ≡ length (take k text))
-unfolding onto
+pub shown-inside : (B text : List ℕ) (k : ℕ) → k ≡ length (sheetText B) → text ≡ overwriteFront (sheetText B) (replicate {A = ℕ} mostText 0) → (k ≤ length text) × (k ≡ length (take k text))
+unfolding overwriteFront
 shown-inside B text k e f =
     let h = sheet-fits B in
-    let n = length-append (sheetText B) (drop (length (sheetText B)) (replicate {A = ℕ} 32768 0)) in
+    let n = length-append (sheetText B) (drop (length (sheetText B)) (replicate {A = ℕ} mostText 0)) in
     let r : k ≤ length text = omega (arith, n, ap length f) in
     (r, sym (length-take-le k text r))

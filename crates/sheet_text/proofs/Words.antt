@@ -8,7 +8,7 @@ use lib.ListN.{length, getD, drop, set, drop-of-length-le, length-drop}
 use lib.Seq.{drop-cons}
 use Rattle.rules.specs.Sheet.{wordsOf}
 use Rattle.table_text.proofs.Writing.{Writing, start, byte, end}
-use Rattle.table_text.specs.Onto.{onto}
+use Rattle.table_text.specs.Lines.{overwriteFront}
 
 -- Four bytes make one word, and no more words than that.
 pub words-few : (B : List ℕ) → 4 * length (wordsOf B) ≤ length B
@@ -74,7 +74,7 @@ module _ (B l : List ℕ) where
     words-room h = omega (arith, w .room, ap length (words-next B (4 * i) h))
 
     -- At last all are written.
-    pub words-done : length B ≤ 4 * i → out ≡ onto (wordsOf B) l
+    pub words-done : length B ≤ 4 * i → out ≡ overwriteFront (wordsOf B) l
     words-done h = end w (ap wordsOf (drop-of-length-le B h) ∙ unfold wordsOf in refl) .1
 
 -- ---- copied byte by byte
@@ -89,5 +89,5 @@ module _ (text l out : List ℕ) (i : ℕ) (w : Writing text l out i (drop i tex
   bytes-room h = omega (arith, w .room, length-drop i text)
 
   -- At last all are written.
-  pub bytes-done : length text ≤ i → out ≡ onto text l
+  pub bytes-done : length text ≤ i → out ≡ overwriteFront text l
   bytes-done h = end w (drop-of-length-le text h) .1

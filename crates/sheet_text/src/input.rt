@@ -3,7 +3,7 @@ ghost use mathlib.Core.Path.{_≡_};
 ghost use Prim.Native.Nat.{_+_, _*_, _%_, _≤_, _<_};
 ghost use lib.ListN.{length, drop, getD};
 ghost use Rattle.rules.specs.Sheet.{wordsOf};
-ghost use Rattle.table_text.specs.Onto.{onto};
+ghost use Rattle.table_text.specs.Lines.{overwriteFront};
 
 fn wide(b: u8) -> u32
     ensures { λ r. ⌜ (r ≡ b) × (r < 256) ⌝ }
@@ -26,7 +26,7 @@ fn word_at(bytes: &[u8], at: usize) -> u32
 // Writes the words of the bytes to the front of `out`.
 pub(crate) fn put_words(bytes: &[u8], out: &mut [u32])
     requires { ⌜ (length (now bytes) % 4 ≡ 0) × (length (now bytes) ≤ 4 * length (now out)) ⌝ }
-    ensures { λ _. ⌜ now (out .exit) ≡ onto (wordsOf (now (bytes .entry))) (now (out .entry)) ⌝ }
+    ensures { λ _. ⌜ now (out .exit) ≡ overwriteFront (wordsOf (now (bytes .entry))) (now (out .entry)) ⌝ }
 {
     let count = bytes.len() / 4;
     for i in 0..count {

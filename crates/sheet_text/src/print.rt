@@ -5,9 +5,10 @@ ghost use Prim.Native.Nat.{_≤_};
 ghost use lib.ListN.{length, replicate};
 ghost use Rattle.rules.specs.Layout.{tableLength, animals, ticks};
 ghost use Rattle.rules.specs.Reading.{isLog};
-ghost use Rattle.rules.specs.Sheet.{isBeyond, logText, tooLarge};
-ghost use Rattle.table_text.specs.Onto.{onto};
+ghost use Rattle.rules.specs.Sheet.{mostTableWords, isBeyond, logText, tooLarge};
+ghost use Rattle.table_text.specs.Lines.{overwriteFront};
 ghost use Rattle.sheet_text.specs.Prints.{Prints};
+use crate::Sheet;
 use rules::ReadAnswer;
 use tables::Opening;
 
@@ -15,7 +16,7 @@ use tables::Opening;
 pub(crate) fn put_bytes(text: &[u8], out: &mut [u8]) -> usize
     requires { ⌜ length (now text) ≤ length (now out) ⌝ }
     ensures { λ r. ⌜ r ≡ length (now (text .entry)) ⌝ }
-    ensures { λ _. ⌜ now (out .exit) ≡ onto (now (text .entry)) (now (out .entry)) ⌝ }
+    ensures { λ _. ⌜ now (out .exit) ≡ overwriteFront (now (text .entry)) (now (out .entry)) ⌝ }
 {
     for i in 0..text.len() {
         out[i] = text[i];
@@ -34,16 +35,16 @@ fn is_beyond(log: &[u32]) -> bool
     if !words::is_opening(w) {
         return false;
     }
-    if words::animals_of(w) > 8 {
+    if words::animals_of(w) > Sheet::MOST_ANIMALS {
         return true;
     }
-    words::ticks_of(w) > 64
+    words::ticks_of(w) > Sheet::MOST_TICKS
 }
 
 // The number of words of the table for a log within the limits; for what is no log, none.
 fn table_size(log: &[u32]) -> usize
     requires { ⌜ isBeyond (now log) ≡ false ⌝ }
-    ensures { λ r. ⌜ r ≤ 4161 ⌝ }
+    ensures { λ r. ⌜ r ≤ mostTableWords ⌝ }
     ensures { λ r. ⌜ (isLog (now (log .entry)) ≡ true → r ≡ tableLength (animals (now (log .entry))) (ticks (now (log .entry)))) ⌝ }
 {
     if log.len() < 2 {
@@ -62,7 +63,7 @@ fn put_read(log: &[u32], table: &mut [u32], out: &mut [u8]) -> usize
     requires { ⌜ Prints (now log) (now table) ⌝ }
     requires { ⌜ length (logText (now log)) ≤ length (now out) ⌝ }
     ensures { λ r. ⌜ r ≡ length (logText (now (log .entry))) ⌝ }
-    ensures { λ _. ⌜ now (out .exit) ≡ onto (logText (now (log .entry))) (now (out .entry)) ⌝ }
+    ensures { λ _. ⌜ now (out .exit) ≡ overwriteFront (logText (now (log .entry))) (now (out .entry)) ⌝ }
 {
     let answer = engine::read_log(log, table);
     match answer {
@@ -72,17 +73,17 @@ fn put_read(log: &[u32], table: &mut [u32], out: &mut [u8]) -> usize
 }
 
 // The words of the largest table, all 0.
-fn blank_table() -> [u32; 4161]
-    ensures { λ r. ⌜ r ≡ replicate 4161 0 ⌝ }
+fn blank_table() -> [u32; Sheet::MOST_TABLE_WORDS]
+    ensures { λ r. ⌜ r ≡ replicate mostTableWords 0 ⌝ }
 {
-    [0; 4161]
+    [0; Sheet::MOST_TABLE_WORDS]
 }
 
 // Writes what is printed for the words of a log.
 pub(crate) fn put_log(log: &[u32], out: &mut [u8]) -> usize
     requires { ⌜ length (cond (isBeyond (now log)) tooLarge (logText (now log))) ≤ length (now out) ⌝ }
     ensures { λ r. ⌜ r ≡ length (cond (isBeyond (now (log .entry))) tooLarge (logText (now (log .entry)))) ⌝ }
-    ensures { λ _. ⌜ now (out .exit) ≡ onto (cond (isBeyond (now (log .entry))) tooLarge (logText (now (log .entry)))) (now (out .entry)) ⌝ }
+    ensures { λ _. ⌜ now (out .exit) ≡ overwriteFront (cond (isBeyond (now (log .entry))) tooLarge (logText (now (log .entry)))) (now (out .entry)) ⌝ }
 {
     if is_beyond(log) {
         return put_bytes(b"too large\n", out);

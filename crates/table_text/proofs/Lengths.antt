@@ -1,4 +1,4 @@
--- How long the texts are: a sheet has at most 32,768 bytes.
+-- How long the texts are: a sheet fits its bytes.
 use mathlib.Core.Path.{_≡_, refl, sym, ap, _∙_}
 use mathlib.Core.Bool.{Bool, true, false, cond, not, _&&_}
 use mathlib.Core.Option.{Option, none, some}
@@ -28,7 +28,7 @@ use Rattle.rules.specs.Opening.{openRefusal}
 use Rattle.rules.specs.Logs.{heldContacts}
 use Rattle.rules.specs.CallLists.{engine, tableAfter}
 use Rattle.rules.specs.Reading.{isLog, loggedContacts, different, readRefusal, readAnswer, readLeaves}
-use Rattle.rules.specs.Sheet.{mostBytes, mostAnimals, mostTicks, wordsOf, decimal, intervalText, intervalsText, cellText, firstLine, tableText, refusedText, tooLarge, notWholeWords, isBeyond, readText, logText, sheetText}
+use Rattle.rules.specs.Sheet.{mostBytes, mostAnimals, mostTicks, mostText, wordsOf, decimal, intervalText, intervalsText, cellText, firstLine, tableText, refusedText, tooLarge, notWholeWords, isBeyond, readText, logText, sheetText}
 use Rattle.rules.proofs.Folds.{and-left, and-right, flat-few}
 use Rattle.rules.proofs.Judged.{ensure-iff, open-iff}
 use Rattle.rules.proofs.Sound.{table-sizes, passes-good}
@@ -52,8 +52,12 @@ digits (suc d) k h = go (lt-outcome k 10) (digits d (k / 10))
 
 -- ---- cells
 
-module _ (τ δ : ℕ) (hτ : τ ≤ 64) (hδ : δ ≤ maxCarry) where
-  -- An interval has at most seven bytes.
+-- The bytes of the longest line: two digits, a space and an end around an interval for each tick.
+abbrev mostLine : ℕ
+mostLine = mostTicks * 7 + 4
+
+module _ (τ δ : ℕ) (hτ : τ ≤ mostTicks) (hδ : δ ≤ maxCarry) where
+  -- An interval of a departure of two digits and an arrival of three has at most seven bytes.
   interval-short : (i : Interval) → Limits τ δ i → length (intervalText i) ≤ 7
   unfolding intervalText
   interval-short i l =
@@ -68,8 +72,8 @@ module _ (τ δ : ℕ) (hτ : τ ≤ 64) (hδ : δ ≤ maxCarry) where
       omega
       (arith, interval-short i (f i (List·Memᴰ·head refl)), intervals-short c (λ j m. f j (List·Memᴰ·tail m)), length-append (intervalText i) (intervalsText c))
 
-  -- A line of two animals below ten has at most 452 bytes.
-  cell-short : (u v : ℕ) (c : Cell) → u < 10 → v < 10 → WellFormedCell τ δ c → length (cellText u v c) ≤ 452
+  -- The line of two animals below ten.
+  cell-short : (u v : ℕ) (c : Cell) → u < 10 → v < 10 → WellFormedCell τ δ c → length (cellText u v c) ≤ mostLine
   unfolding cellText
   cell-short u v [] h k w = omega arith
   cell-short u v (i ∷ c) h k w =
@@ -102,15 +106,19 @@ first-short n τ δ held a b c d =
       length-append (decimal held) (10 ∷ []),
     )
 
--- The lines of at most 8 times 8 cells, and the text with the first line.
-module _ (n τ δ : ℕ) (C : Cells) (hn : n ≤ 8) (hτ : τ ≤ 64) (hδ : δ ≤ maxCarry) (g : WellFormedBelow n τ δ C) where
-  lines-short : length (flat (λ u. flat (λ v. cellText u v (C u v)) n) n) ≤ 28928
-  lines-short =
-      let a = flat-few (λ u. flat (λ v. cellText u v (C u v)) n) (n * 452) n
-      (λ u h. flat-few (λ v. cellText u v (C u v)) 452 n (λ v k. cell-short τ δ hτ hδ u v (C u v) (omega arith) (omega arith) (g .cells u v h k))) in
-      omega (arith, a, mul-le-mul hn (mul-le-mul hn (le-refl 452)))
+-- The bytes of the longest text: a first line, and a line for each cell.
+abbrev mostShown : ℕ
+mostShown = 18 + mostAnimals * (mostAnimals * mostLine)
 
-  text-short : (held : ℕ) → held < 100000000 → length (firstLine n τ δ held ++ flat (λ u. flat (λ v. cellText u v (C u v)) n) n) ≤ 28946
+-- The lines of the cells, and the text with the first line.
+module _ (n τ δ : ℕ) (C : Cells) (hn : n ≤ mostAnimals) (hτ : τ ≤ mostTicks) (hδ : δ ≤ maxCarry) (g : WellFormedBelow n τ δ C) where
+  lines-short : length (flat (λ u. flat (λ v. cellText u v (C u v)) n) n) ≤ mostAnimals * (mostAnimals * mostLine)
+  lines-short =
+      let a = flat-few (λ u. flat (λ v. cellText u v (C u v)) n) (n * mostLine) n
+      (λ u h. flat-few (λ v. cellText u v (C u v)) mostLine n (λ v k. cell-short τ δ hτ hδ u v (C u v) (omega arith) (omega arith) (g .cells u v h k))) in
+      omega (arith, a, mul-le-mul hn (mul-le-mul hn (le-refl mostLine)))
+
+  text-short : (held : ℕ) → held < 100000000 → length (firstLine n τ δ held ++ flat (λ u. flat (λ v. cellText u v (C u v)) n) n) ≤ mostShown
   text-short held h =
       omega (
         arith,
@@ -119,8 +127,8 @@ module _ (n τ δ : ℕ) (C : Cells) (hn : n ≤ 8) (hτ : τ ≤ 64) (hδ : δ 
         length-append (firstLine n τ δ held) (flat (λ u. flat (λ v. cellText u v (C u v)) n) n),
       )
 
--- A table of at most 8 animals and 64 ticks.
-pub table-short : (T : List ℕ) → ValidTable T → animals T ≤ 8 → ticks T ≤ 64 → length (tableText T) ≤ 28946
+-- A table within the limits.
+pub table-short : (T : List ℕ) → ValidTable T → animals T ≤ mostAnimals → ticks T ≤ mostTicks → length (tableText T) ≤ mostShown
 unfolding tableText
 table-short T p a b =
     let h : length (heldContacts T) < 100000000 = omega (arith, held-few T p) in
@@ -157,7 +165,7 @@ second-fails a b h e = sym (ap (λ (x : Bool). x && b) h) ∙ e
 
 module _ (L T : List ℕ) (r : readRefusal L T ≡ none) where
   -- A log that is read and is not beyond the limits lies within them.
-  within-limits : isBeyond L ≡ false → (animals L ≤ 8) × (ticks L ≤ 64)
+  within-limits : isBeyond L ≡ false → (animals L ≤ mostAnimals) × (ticks L ≤ mostTicks)
   unfolding isBeyond readRefusal
   within-limits e =
       let x = leb (animals L) mostAnimals in
@@ -176,14 +184,14 @@ module _ (L T : List ℕ) (r : readRefusal L T ≡ none) where
       )
 
   -- The text of the table that it leaves.
-  pub read-short : isBeyond L ≡ false → length (tableText (tableAfter engine (animals L) (ticks L) (carry L) T (loggedContacts L))) ≤ 28946
+  pub read-short : isBeyond L ≡ false → length (tableText (tableAfter engine (animals L) (ticks L) (carry L) T (loggedContacts L))) ≤ mostShown
   read-short e =
       let f = run-fresh (animals L) (ticks L) (carry L) T (loggedContacts L) read-opens in
       let h = within-limits e in
       table-short _ (fresh-passes f) (rw (fresh-animals f) (h .0)) (rw (fresh-ticks f) (h .1))
 
 -- The text of a log that is not beyond the limits.
-pub log-short : (L : List ℕ) → isBeyond L ≡ false → length (logText L) ≤ 28946
+pub log-short : (L : List ℕ) → isBeyond L ≡ false → length (logText L) ≤ mostShown
 unfolding logText readAnswer readLeaves
 log-short L e = go (readRefusal L T) refl
   where
@@ -191,16 +199,16 @@ log-short L e = go (readRefusal L T) refl
     T = replicate {A = ℕ} (tableLength (animals L) (ticks L)) 0
 
     go : (o : Option Refusal) → readRefusal L T ≡ o
-        → length (readText (readAnswerOf o (Read (different (loggedContacts L)))) (unless o (tableAfter engine (animals L) (ticks L) (carry L) T (loggedContacts L)) T)) ≤ 28946
+        → length (readText (readAnswerOf o (Read (different (loggedContacts L)))) (unless o (tableAfter engine (animals L) (ticks L) (carry L) T (loggedContacts L)) T)) ≤ mostShown
     go none r = read-short L T r e
     go (some r) q = omega (arith, refused-short r)
 
--- A sheet fits 32,768 bytes.
-pub sheet-fits : (B : List ℕ) → length (sheetText B) ≤ 32768
+-- A sheet fits its bytes.
+pub sheet-fits : (B : List ℕ) → length (sheetText B) ≤ mostText
 unfolding sheetText
 sheet-fits B = go (ltb mostBytes (length B)) (not (eqb (length B % 4) 0)) (isBeyond (wordsOf B)) refl
   where
-    go : (a b c : Bool) → isBeyond (wordsOf B) ≡ c → length (cond a tooLarge (cond b notWholeWords (cond c tooLarge (logText (wordsOf B))))) ≤ 32768
+    go : (a b c : Bool) → isBeyond (wordsOf B) ≡ c → length (cond a tooLarge (cond b notWholeWords (cond c tooLarge (logText (wordsOf B))))) ≤ mostText
     go true b c e = omega arith
     go false true c e = omega arith
     go false false true e = omega arith

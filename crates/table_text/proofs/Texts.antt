@@ -1,102 +1,81 @@
 -- The texts of a cell's rows and of a table's cells, as the loops over them see them.
-use mathlib.Core.Path.{_≡_, refl, sym, ap, ap₂, _∙_}
-use mathlib.Core.List.{List, [], _∷_, _++_, map}
+use mathlib.Core.Path.{_≡_, refl, sym, ap, _∙_}
+use mathlib.Core.List.{List, [], _∷_, _++_}
 use Prim.Native.Nat.{ℕ, _+_, _*_, _≤_, _<_}
-use native.Mathlib.Numerals.{add-one}
 use native.Mathlib.Omega.{arith}
-use lib.ListN.{length, getD, take, drop, length-map, length-take, drop-of-length-le}
-use lib.Seq.{drop-cons, drop-drop, getD-take, length-take-le}
+use lib.ListN.{length, getD, drop}
 use Rattle.journeys.specs.Cell.{Cell}
 use Rattle.words.specs.Words.{intervalOf}
 use Rattle.rules.specs.Folds.{flat}
-use Rattle.rules.specs.Layout.{animals, ticks, carry, cellAt, cellOf, cellsOf}
+use Rattle.rules.specs.Layout.{animals, ticks, carry, cellOf, cellsOf}
 use Rattle.rules.specs.Logs.{heldContacts}
 use Rattle.rules.specs.Sheet.{decimal, space, newline, intervalText, intervalsText, cellText, firstLine, tableText}
 use Rattle.rules.proofs.Folds.{flat-same}
 use Rattle.grid.specs.Parts.{part}
-use Rattle.grid.proofs.Places.{part-of-row}
-use Rattle.logs.specs.Ordered.{rowsIn}
-use Rattle.logs.proofs.Written.{Read}
-use Rattle.table_text.specs.Onto.{cellLine, rowLines}
+use Rattle.grid.specs.RowsInUse.{rowsIn}
+use Rattle.grid.proofs.Places.{cell-in, cell-of-row}
+use Rattle.grid.proofs.RowsInUse.{rowsFrom, RowLoop, rows-all, rows-next, rows-end, rows-count}
+use Rattle.grid.proofs.TableRead.{Read}
+use Rattle.cells.specs.Stored.{Stored}
+use Rattle.cells.proofs.Lent.{count-fits}
+use Rattle.table_text.specs.Lines.{cellLine, linesFrom}
 
 -- ---- the rows of a cell
 
--- The text of the rows from i on, of those that end at e.
-unfoldable pub left : List ℕ → ℕ → ℕ → List ℕ
-left xs e i = intervalsText (map intervalOf (drop i (take e xs)))
+-- The text of the rows that are left: at first of all, then the next row's and that of those after it, at last none.
+pub all-left : (xs : List ℕ) (k : ℕ) → k ≡ rowsIn xs → Stored xs → intervalsText (rowsFrom xs (k + 1) 1) ≡ intervalsText (cellOf xs)
+all-left xs k e h = ap intervalsText (rows-all xs k e (count-fits xs h))
 
-module _ (xs : List ℕ) where
-  -- At first all rows in use are left.
-  pub left-start : rowsIn xs < length xs → left xs (rowsIn xs + 1) 1 ≡ intervalsText (cellOf xs)
-  unfolding left cellOf
-  left-start h = ap intervalsText (go xs h)
+module _ {xs : List ℕ} {e i : ℕ} (w : RowLoop xs e i) where
+  pub next-left : i < e → intervalsText (rowsFrom xs e i) ≡ intervalText (intervalOf (getD xs i 0)) ++ intervalsText (rowsFrom xs e (i + 1))
+  unfolding intervalsText
+  next-left h = ap intervalsText (rows-next w h)
+
+  pub none-left : e ≤ i → intervalsText (rowsFrom xs e i) ≡ []
+  unfolding intervalsText
+  none-left h = ap intervalsText (rows-end w h)
+
+module _ (xs : List ℕ) (u v : ℕ) (h : Stored xs) where
+  -- An empty cell has no line.
+  pub no-line : rowsIn xs ≡ 0 → cellText u v (cellOf xs) ≡ []
+  unfolding cellText
+  no-line e = go (cellOf xs) (rows-count xs (count-fits xs h) ∙ e)
     where
-      go : (ys : List ℕ) → rowsIn ys < length ys → map intervalOf (drop 1 (take (rowsIn ys + 1) ys)) ≡ cellOf ys
-      go [] h = absurd (omega arith)
-      go (w ∷ ws) h = rw (add-one (rowsIn (w ∷ ws))) refl
+      go : (c : Cell) → length c ≡ 0 → cellText u v c ≡ []
+      go [] i = refl
+      go (i ∷ c) j = absurd (omega arith)
 
-  -- The next row, then those after it.
-  pub left-next : (e i : ℕ) → i < e → e ≤ length xs → left xs e i ≡ intervalText (intervalOf (getD xs i 0)) ++ left xs e (i + 1)
-  unfolding left intervalsText
-  left-next e i h k =
-      ap (λ (l : List ℕ). intervalsText (map intervalOf l))
-      (drop-cons (take e xs) i 0 (omega (arith, length-take e xs)) ∙ ap₂ (λ (w n : ℕ). w ∷ drop n (take e xs)) (getD-take e xs i 0 h) (sym (add-one i)))
-
-  -- At the end none is left.
-  pub left-end : (e i : ℕ) → e ≤ i → left xs e i ≡ []
-  unfolding left intervalsText
-  left-end e i h = ap (λ (l : List ℕ). intervalsText (map intervalOf l)) (drop-of-length-le (take e xs) {i = i} (omega (arith, length-take e xs)))
-
-  -- A cell has as many intervals as rows in use.
-  rows-count : rowsIn xs < length xs → length (cellOf xs) ≡ rowsIn xs
-  unfolding cellOf
-  rows-count h = go xs h
+  -- Any other has one.
+  pub one-line : (rowsIn xs ≡ 0 → ⊥) → cellText u v (cellOf xs) ≡ decimal u ++ (space ∷ (decimal v ++ (intervalsText (cellOf xs) ++ newline)))
+  unfolding cellText
+  one-line n = go (cellOf xs) (λ e. n (sym (rows-count xs (count-fits xs h)) ∙ e))
     where
-      go : (ys : List ℕ) → rowsIn ys < length ys → length (cellOf ys) ≡ rowsIn ys
-      go [] h = absurd (omega arith)
-      go (w ∷ ws) h = length-map (take (rowsIn (w ∷ ws)) ws) intervalOf ∙ length-take-le (rowsIn (w ∷ ws)) ws (omega arith)
-
-  module _ (u v : ℕ) (h : rowsIn xs < length xs) where
-    -- An empty cell has no line.
-    pub no-line : rowsIn xs ≡ 0 → cellText u v (cellOf xs) ≡ []
-    unfolding cellText
-    no-line e = go (cellOf xs) (rows-count h ∙ e)
-      where
-        go : (c : Cell) → length c ≡ 0 → cellText u v c ≡ []
-        go [] i = refl
-        go (i ∷ c) j = absurd (omega arith)
-
-    -- Any other has one.
-    pub one-line : (rowsIn xs ≡ 0 → ⊥) → cellText u v (cellOf xs) ≡ decimal u ++ (space ∷ (decimal v ++ (intervalsText (cellOf xs) ++ newline)))
-    unfolding cellText
-    one-line n = go (cellOf xs) (λ e. n (sym (rows-count h) ∙ e))
-      where
-        go : (c : Cell) → (length c ≡ 0 → ⊥) → cellText u v c ≡ decimal u ++ (space ∷ (decimal v ++ (intervalsText c ++ newline)))
-        go [] i = absurd (i refl)
-        go (i ∷ c) j = refl
+      go : (c : Cell) → (length c ≡ 0 → ⊥) → cellText u v c ≡ decimal u ++ (space ∷ (decimal v ++ (intervalsText c ++ newline)))
+      go [] i = absurd (i refl)
+      go (i ∷ c) j = refl
 
 -- ---- the cells of a table
 
--- The line of a lent cell, and the lines of a lent row.
-pub cell-lent : (s u v : ℕ) (row lent : List ℕ) → lent ≡ part s v row → cellLine s u row v ≡ cellText u v (cellOf lent)
+-- The line of a lent cell, and the lines of the lent cells from u.
+pub cell-lent : (s u v : ℕ) (cells lent : List ℕ) → lent ≡ part s v cells → cellLine s u cells v ≡ cellText u v (cellOf lent)
 unfolding cellLine
-cell-lent s u v row lent e = ap (λ (x : List ℕ). cellText u v (cellOf x)) (sym e)
+cell-lent s u v cells lent e = ap (λ (x : List ℕ). cellText u v (cellOf x)) (sym e)
 
-pub row-lent : (s n u : ℕ) (body lent : List ℕ) → lent ≡ part (n * s) u body → rowLines s n body u ≡ flat (cellLine s u lent) n
-unfolding rowLines
-row-lent s n u body lent e = ap (λ (x : List ℕ). flat (cellLine s u x) n) (sym e)
+pub from-lent : (s n u : ℕ) (body lent : List ℕ) → lent ≡ part (n * s) u body → linesFrom s n body u ≡ flat (cellLine s u lent) n
+unfolding linesFrom
+from-lent s n u body lent e = ap (λ (x : List ℕ). flat (cellLine s u x) n) (sym e)
 
--- The lines of the rows are those of the cells.
-pub table-lines : (T : List ℕ) → flat (rowLines (ticks T + 1) (animals T) (drop 1 T)) (animals T) ≡ flat (λ u. flat (λ v. cellText u v (cellsOf T u v)) (animals T)) (animals T)
-unfolding rowLines cellLine cellsOf cellAt
+-- The lines of the cells from each animal are those of the cells.
+pub table-lines : (T : List ℕ) → flat (linesFrom (ticks T + 1) (animals T) (drop 1 T)) (animals T) ≡ flat (λ u. flat (λ v. cellText u v (cellsOf T u v)) (animals T)) (animals T)
+unfolding linesFrom cellLine cellsOf
 table-lines T =
     let n = animals T in
     let s = ticks T + 1 in
-    flat-same _ _ n (λ u h. flat-same _ _ n (λ v k. ap (λ (l : List ℕ). cellText u v (cellOf l)) (part-of-row s n u v (drop 1 T) k ∙ ap (take s) (drop-drop ((u * n + v) * s) 1 T))))
+    flat-same _ _ n (λ u h. flat-same _ _ n (λ v k. ap (λ (l : List ℕ). cellText u v (cellOf l)) (cell-of-row n s u v (drop 1 T) k ∙ cell-in n (ticks T) T u v)))
 
--- The first line and the lines of the rows are the text of the table, by its numbers as they were read.
+-- The first line and the lines of the cells are the text of the table, by its numbers as they were read.
 pub table-text : (T : List ℕ) {n s δ : ℕ} {L : List ℕ} (r : Read T n s δ L) (τ held : ℕ) → τ ≡ ticks T → held ≡ length (heldContacts T)
-    → firstLine n τ δ held ++ flat (rowLines s n L) n ≡ tableText T
+    → firstLine n τ δ held ++ flat (linesFrom s n L) n ≡ tableText T
 unfolding tableText
 table-text T r τ held e h =
     rw (r .animals-is, r .size-is, r .carry-is, r .lent-is, e, h) (ap (λ (l : List ℕ). firstLine (animals T) (ticks T) (carry T) (length (heldContacts T)) ++ l) (table-lines T))

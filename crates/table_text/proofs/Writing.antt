@@ -10,7 +10,9 @@ use lib.ListN.{length, take, drop, set, length-append, length-drop, take-append-
 use lib.Seq.{take-all, take-at, drop-at, drop-drop, sets, sets-eq, length-take-le}
 use Rattle.journeys.proofs.Tests.{Outcome, holds, fails, lt-outcome}
 use Rattle.rules.specs.Folds.{flat}
-use Rattle.table_text.specs.Onto.{onto}
+use Rattle.rules.specs.Sheet.{decimal}
+use Rattle.grid.proofs.Reading.{Through, through-start, through-turn}
+use Rattle.table_text.specs.Lines.{overwriteFront}
 
 -- Of the text `all` the part before `at` is written, and `rest` is left; from `at` on the list is as it was.
 pub record Writing (all l out : List ℕ) (at : ℕ) (rest : List ℕ) : Type 0 where
@@ -27,6 +29,10 @@ back out at new = take at out ++ (new ++ drop (length out - at) (drop at out))
 pub start : (all l rest : List ℕ) → rest ≡ all → length all ≤ length l → Writing all l l 0 rest
 start all l rest e h = record { whole = e; behind = refl; kept = refl; room = omega (arith, ap length e) }
 
+-- A text, a byte and more: the text with the byte behind it, then more.
+pub then : (text : List ℕ) (b : ℕ) (more : List ℕ) → text ++ (b ∷ more) ≡ (text ++ (b ∷ [])) ++ more
+then text b more = sym (append-assoc text (b ∷ []) more)
+
 module _ {all l out : List ℕ} {at : ℕ} {rest : List ℕ} (w : Writing all l out at rest) where
   -- The part written ends at `at`.
   front : length (take at out) ≡ at
@@ -35,6 +41,10 @@ module _ {all l out : List ℕ} {at : ℕ} {rest : List ℕ} (w : Writing all l 
   -- The rest of the list, as it is lent.
   lent : take (length out - at) (drop at out) ≡ drop at out
   lent = take-all (length out - at) (drop at out) (omega (arith, length-drop at out))
+
+  -- The place lies inside the list.
+  pub inside : (at ≤ length out) × (at ≤ length l)
+  inside = (omega (arith, w .room), omega (arith, w .room, w .kept))
 
   -- The next piece fits the rest of the list.
   pub fits : (text more : List ℕ) → rest ≡ text ++ more → length text ≤ length (take (length out - at) (drop at out))
@@ -66,9 +76,9 @@ module _ {all l out : List ℕ} {at : ℕ} {rest : List ℕ} (w : Writing all l 
       }
 
   -- A piece is written by a callee that was lent the rest of the list.
-  pub piece : (new text more : List ℕ) (k : ℕ) → rest ≡ text ++ more → k ≡ length text → new ≡ onto text (take (length out - at) (drop at out))
+  pub piece : (new text more : List ℕ) (k : ℕ) → rest ≡ text ++ more → k ≡ length text → new ≡ overwriteFront text (take (length out - at) (drop at out))
       → Writing all l (back out at new) (at + k) more
-  unfolding onto
+  unfolding overwriteFront
   piece new text more k e i f =
       next _ text more k e i
       (ap₂ (λ (x y : List ℕ). take at out ++ (x ++ y)) (f ∙ ap₂ (λ (x : List ℕ) (j : ℕ). text ++ drop j x) lent (sym i)) (drop-of-length-le (drop at out) {i = length out - at} (omega (arith, length-drop at out)))
@@ -80,8 +90,16 @@ module _ {all l out : List ℕ} {at : ℕ} {rest : List ℕ} (w : Writing all l 
   pub fits-last : (text : List ℕ) → rest ≡ text → length text ≤ length (take (length out - at) (drop at out))
   fits-last text e = fits text [] (e ∙ sym (append-nil text))
 
-  pub last : (new text : List ℕ) (k : ℕ) → rest ≡ text → k ≡ length text → new ≡ onto text (take (length out - at) (drop at out)) → Writing all l (back out at new) (at + k) []
+  pub last : (new text : List ℕ) (k : ℕ) → rest ≡ text → k ≡ length text → new ≡ overwriteFront text (take (length out - at) (drop at out)) → Writing all l (back out at new) (at + k) []
   last new text k e i f = piece new text [] k (e ∙ sym (append-nil text)) i f
+
+  -- A number with the byte behind it fits the rest of the list, and is written there.
+  pub number-fits : (k b : ℕ) (more : List ℕ) → rest ≡ decimal k ++ (b ∷ more) → length (decimal k ++ (b ∷ [])) ≤ length (take (length out - at) (drop at out))
+  number-fits k b more e = fits (decimal k ++ (b ∷ [])) more (e ∙ then (decimal k) b more)
+
+  pub number : (new more : List ℕ) (k b r : ℕ) → rest ≡ decimal k ++ (b ∷ more) → r ≡ length (decimal k ++ (b ∷ [])) → new ≡ overwriteFront (decimal k ++ (b ∷ [])) (take (length out - at) (drop at out))
+      → Writing all l (back out at new) (at + r) more
+  number new more k b r e i f = piece new (decimal k ++ (b ∷ [])) more r (e ∙ then (decimal k) b more) i f
 
   -- Bytes are written one after the other.
   pub bytes : (text more : List ℕ) → rest ≡ text ++ more → Writing all l (sets out at text) (at + length text) more
@@ -91,8 +109,8 @@ module _ {all l out : List ℕ} {at : ℕ} {rest : List ℕ} (w : Writing all l 
   byte b more e = bytes (b ∷ []) more e
 
   -- At the end the text stands at the front of the list.
-  pub end : rest ≡ [] → (at ≡ length all) × (out ≡ onto all l)
-  unfolding onto
+  pub end : rest ≡ [] → (at ≡ length all) × (out ≡ overwriteFront all l)
+  unfolding overwriteFront
   end e =
       let h : take at out ≡ all = sym (append-nil (take at out)) ∙ ap (λ (x : List ℕ). take at out ++ x) (sym e) ∙ w .whole in
       let i : at ≡ length all = sym front ∙ ap length h in
@@ -103,23 +121,28 @@ module _ {all l out : List ℕ} {at : ℕ} {rest : List ℕ} (w : Writing all l 
   pub last-place : rest ≡ b ∷ [] → at + 1 ≡ length all
   last-place e = end (byte w b [] e) refl .0
 
-  pub last-byte : (x : ℕ) → rest ≡ b ∷ [] → x ≡ b → set out at x ≡ onto all l
+  pub last-byte : (x : ℕ) → rest ≡ b ∷ [] → x ≡ b → set out at x ≡ overwriteFront all l
   last-byte x e i = ap (set out at) i ∙ end (byte w b [] e) refl .1
 
 -- The first piece fits the whole list.
 pub fits-whole : (all l text more : List ℕ) → text ++ more ≡ all → length all ≤ length l → length text ≤ length l
 fits-whole all l text more e h = omega (arith, ap length e, length-append text more)
 
--- It is written by a callee that was lent the whole list.
-pub first : {all l : List ℕ} (new text more : List ℕ) (k : ℕ) → text ++ more ≡ all → k ≡ length text → new ≡ onto text l → length all ≤ length l → Writing all l new k more
-unfolding onto
+-- So does a first number with the byte behind it.
+pub number-fits-whole : (all l more : List ℕ) (k b : ℕ) → all ≡ decimal k ++ (b ∷ more) → length all ≤ length l → length (decimal k ++ (b ∷ [])) ≤ length l
+number-fits-whole all l more k b e h = fits-whole all l (decimal k ++ (b ∷ [])) more (sym (e ∙ then (decimal k) b more)) h
+
+-- The first piece is written by a callee that was lent the whole list.
+pub first : {all l : List ℕ} (new text more : List ℕ) (k : ℕ) → text ++ more ≡ all → k ≡ length text → new ≡ overwriteFront text l → length all ≤ length l → Writing all l new k more
+unfolding overwriteFront
 first {all} {l} new text more k e i f h =
     subst (λ (j : ℕ). Writing all l new j more) (zero-add k)
     (next (start all l (text ++ more) e h) new text more k refl i (f ∙ ap (λ (j : ℕ). text ++ drop j l) (sym i ∙ sym (zero-add k))))
 
--- A text, a byte and more: the text with the byte behind it, then more.
-pub then : (text : List ℕ) (b : ℕ) (more : List ℕ) → text ++ (b ∷ more) ≡ (text ++ (b ∷ [])) ++ more
-then text b more = sym (append-assoc text (b ∷ []) more)
+-- So is a first number with the byte behind it.
+pub first-number : {all l : List ℕ} (new more : List ℕ) (k b r : ℕ) → all ≡ decimal k ++ (b ∷ more) → r ≡ length (decimal k ++ (b ∷ [])) → new ≡ overwriteFront (decimal k ++ (b ∷ [])) l → length all ≤ length l
+    → Writing all l new r more
+first-number new more k b r e i f h = first new (decimal k ++ (b ∷ [])) more r (sym (e ∙ then (decimal k) b more)) i f h
 
 -- ---- a text of parts
 
@@ -144,16 +167,35 @@ module _ (f : ℕ → List ℕ) where
       go (holds o) r = let q = r o in omega (arith, length-append (flat f n) (f n))
       go (fails o) r = let e : k ≡ n = omega arith in le-of-eq (ap (λ (i : ℕ). length (flat f i ++ f i)) e)
 
-  -- No part is written yet.
-  pub parts-start : (l : List ℕ) → Writing (flat f 0) l l 0 []
-  unfolding flat
-  parts-start l = start [] l [] refl (omega arith)
-
   -- The next part is left.
-  pub parts-next : {l out : List ℕ} {at : ℕ} (n k : ℕ) → Writing (flat f k) l out at [] → k < n → length (flat f n) ≤ length l → Writing (flat f (k + 1)) l out at (f k)
+  next-part : {l out : List ℕ} {at : ℕ} (n k : ℕ) → Writing (flat f k) l out at [] → k < n → length (flat f n) ≤ length l → Writing (flat f (k + 1)) l out at (f k)
   unfolding flat
-  parts-next n k w h i = rw (add-one k) (more (f k) w (omega (arith, flat-room n k h)))
+  next-part n k w h i = rw (add-one k) (more (f k) w (omega (arith, flat-room n k h)))
+
+-- A loop that reads n parts of s words from a list, and writes the text f of each behind the part written: the first k are passed, and the next
+-- begins at `from`.
+pub record WritingParts (f : ℕ → List ℕ) (s n : ℕ) (l out : List ℕ) (from at k : ℕ) : Type 0 where
+  pub through : Through s n from k
+  pub writing : Writing (flat f k) l out at []
+
+-- No part is written yet.
+pub parts-start : (f : ℕ → List ℕ) (s n : ℕ) (l : List ℕ) → WritingParts f s n l l 0 0 0
+unfolding flat
+parts-start f s n l = record { through = through-start s n; writing = start [] l [] refl (omega arith) }
+
+module _ {f : ℕ → List ℕ} {s n : ℕ} {l out : List ℕ} {from at k : ℕ} (w : WritingParts f s n l out from at k) where
+  -- The text of the next part fits the rest of the list.
+  pub part-fits : (text : List ℕ) → f k ≡ text → k < n → length (flat f n) ≤ length l → length text ≤ length (take (length out - at) (drop at out))
+  part-fits text e t h = fits-last (next-part f n k (w .writing) t h) text e
+
+  -- It is written.
+  pub part-written : (new text : List ℕ) (r : ℕ) → f k ≡ text → k < n → length (flat f n) ≤ length l → r ≡ length text → new ≡ overwriteFront text (take (length out - at) (drop at out))
+      → WritingParts f s n l (back out at new) (from + s) (at + r) (k + 1)
+  part-written new text r e t h i g =
+      record { through = through-turn (w .through) t; writing = last (next-part f n k (w .writing) t h) new text r e i g }
 
   -- All parts are written.
-  pub parts-end : {l out : List ℕ} {at n k : ℕ} → Writing (flat f k) l out at [] → k ≡ n → (at ≡ length (flat f n)) × (out ≡ onto (flat f n) l)
-  parts-end {l} {out} {at} {n} {k} w e = subst (λ (i : ℕ). (at ≡ length (flat f i)) × (out ≡ onto (flat f i) l)) e (end w refl)
+  pub parts-end : n ≤ k → (at ≡ length (flat f n)) × (out ≡ overwriteFront (flat f n) l)
+  parts-end h =
+      let e : k ≡ n = omega (arith, w .through .below) in
+      subst (λ (i : ℕ). (at ≡ length (flat f i)) × (out ≡ overwriteFront (flat f i) l)) e (end (w .writing) refl)

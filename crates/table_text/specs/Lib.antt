@@ -1,1 +1,1 @@
-pub mod Onto
+pub mod Lines

@@ -1,6 +1,6 @@
 // The text of a table, written to the front of a lent buffer.
 mod cell;
-mod rows;
+mod cell_lines;
 
 ghost use mathlib.Core.Path.{_≡_};
 ghost use mathlib.Core.List.{[], _∷_, _++_};
@@ -9,7 +9,7 @@ ghost use lib.ListN.{length};
 ghost use Rattle.rules.specs.Checks.{ValidTable};
 ghost use Rattle.rules.specs.Logs.{heldContacts};
 ghost use Rattle.rules.specs.Sheet.{decimal, firstLine, tableText, refusedText};
-ghost use Rattle.table_text.specs.Onto.{onto};
+ghost use Rattle.table_text.specs.Lines.{overwriteFront};
 
 // The digit of a number below ten.
 fn digit(k: u32) -> u8
@@ -23,7 +23,7 @@ fn digit(k: u32) -> u8
 pub fn put_number(k: u32, out: &mut [u8]) -> usize
     requires { ⌜ length (decimal k) ≤ length (now out) ⌝ }
     ensures { λ r. ⌜ r ≡ length (decimal k) ⌝ }
-    ensures { λ _. ⌜ now (out .exit) ≡ onto (decimal k) (now (out .entry)) ⌝ }
+    ensures { λ _. ⌜ now (out .exit) ≡ overwriteFront (decimal k) (now (out .entry)) ⌝ }
 {
     if k < 10 {
         out[0] = digit(k);
@@ -38,7 +38,7 @@ pub fn put_number(k: u32, out: &mut [u8]) -> usize
 pub(crate) fn put_then(k: u32, byte: u8, out: &mut [u8]) -> usize
     requires { ⌜ length (decimal k ++ (byte ∷ [])) ≤ length (now out) ⌝ }
     ensures { λ r. ⌜ r ≡ length (decimal k ++ (byte ∷ [])) ⌝ }
-    ensures { λ _. ⌜ now (out .exit) ≡ onto (decimal k ++ (byte ∷ [])) (now (out .entry)) ⌝ }
+    ensures { λ _. ⌜ now (out .exit) ≡ overwriteFront (decimal k ++ (byte ∷ [])) (now (out .entry)) ⌝ }
 {
     let end = put_number(k, out);
     out[end] = byte;
@@ -49,7 +49,7 @@ pub(crate) fn put_then(k: u32, byte: u8, out: &mut [u8]) -> usize
 fn put_first_line(n: u32, ticks: u32, carry: u32, held: u32, out: &mut [u8]) -> usize
     requires { ⌜ length (firstLine n ticks carry held) ≤ length (now out) ⌝ }
     ensures { λ r. ⌜ r ≡ length (firstLine n ticks carry held) ⌝ }
-    ensures { λ _. ⌜ now (out .exit) ≡ onto (firstLine n ticks carry held) (now (out .entry)) ⌝ }
+    ensures { λ _. ⌜ now (out .exit) ≡ overwriteFront (firstLine n ticks carry held) (now (out .entry)) ⌝ }
 {
     let a = put_then(n, b' ', out);
     let b = a + put_then(ticks, b' ', &mut out[a..]);
@@ -63,21 +63,21 @@ pub fn put_table(table: &[u32], held: u32, out: &mut [u8]) -> usize
     requires { ⌜ held ≡ length (heldContacts (now table)) ⌝ }
     requires { ⌜ length (tableText (now table)) ≤ length (now out) ⌝ }
     ensures { λ r. ⌜ r ≡ length (tableText (now (table .entry))) ⌝ }
-    ensures { λ _. ⌜ now (out .exit) ≡ onto (tableText (now (table .entry))) (now (out .entry)) ⌝ }
+    ensures { λ _. ⌜ now (out .exit) ≡ overwriteFront (tableText (now (table .entry))) (now (out .entry)) ⌝ }
 {
     let w = table[0];
     let n = words::animals_of(w);
     let ticks = words::ticks_of(w);
     let size = ticks as usize + 1;
     let at = put_first_line(n, ticks, words::carry_of(w), held, out);
-    at + rows::put_rows(&table[1..], n, size, &mut out[at..])
+    at + cell_lines::put_all_cells(&table[1..], n, size, &mut out[at..])
 }
 
 // Writes the line of a refusal.
 pub fn put_refused(number: u32, out: &mut [u8]) -> usize
     requires { ⌜ length (refusedText number) ≤ length (now out) ⌝ }
     ensures { λ r. ⌜ r ≡ length (refusedText number) ⌝ }
-    ensures { λ _. ⌜ now (out .exit) ≡ onto (refusedText number) (now (out .entry)) ⌝ }
+    ensures { λ _. ⌜ now (out .exit) ≡ overwriteFront (refusedText number) (now (out .entry)) ⌝ }
 {
     out[0] = b'r';
     out[1] = b'e';

@@ -1,27 +1,27 @@
--- `sheet_text` meets its contract.
+-- `sheet_text` meets its contract: the text is written to the front of an empty one.
 use borrow.Author.Needs.{needs}
 use Prim.Native.Nat.{ℕ}
-use mathlib.Core.Path.{ap, _∙_}
+use mathlib.Core.Path.{_≡_, ap, _∙_}
 use native.Mathlib.Omega.{arith}
 use lib.ListN.{length, length-replicate}
-use Rattle.rules.specs.Sheet.{sheetText}
-use Rattle.table_text.specs.Onto.{onto}
+use Rattle.rules.specs.Sheet.{mostText, sheetText}
+use Rattle.table_text.specs.Lines.{overwriteFront}
 use Rattle.table_text.proofs.Lengths.{sheet-fits}
 use Rattle.sheet_text.proofs.sheet_text.Statement.{statement}
 use Rattle.sheet_text.proofs.sheet_text.Tie as tie
 
-blank-text-requires : tie.Need-blank-text-requires
-blank-text-requires c κs = search needs
-
-slice-aggregate-put-sheet : tie.Need-slice-aggregate-put-sheet
-slice-aggregate-put-sheet c = omega (arith, ap length (c .before .blank-text .ensures), length-replicate {A = ℕ} 32768 0)
+-- The length of the empty text.
+room : (c : tie.After-blank-text) → length (c .blank-text .result) ≡ mostText
+room c = ap length (c .blank-text .ensures) ∙ length-replicate {A = ℕ} mostText 0
 
 put-sheet-requires : tie.Need-put-sheet-requires
-put-sheet-requires c κs = omega (arith, sheet-fits (c .before .before .before .args .bytes .now), ap length (c .before .blank-text .ensures), length-replicate {A = ℕ} 32768 0)
+put-sheet-requires c κs = omega (arith, sheet-fits (c .before .before .before .args .bytes .now), room (c .before))
 
 returns : tie.Need-returns
-returns c = (c .before .put-sheet .ensures .0, c .before .put-sheet .ensures .1 ∙ ap (onto (sheetText (c .before .before .before .before .before .args .bytes .now))) (c .before .before .before .blank-text .ensures))
+returns c =
+    let p = c .before in
+    let b = p .before .before in
+    (p .put-sheet .ensures .0, p .put-sheet .ensures .1 ∙ ap (overwriteFront (sheetText (b .before .before .args .bytes .now))) (b .blank-text .ensures))
 
 pub sheet-text-spec : {M : Type 1} → statement M
-sheet-text-spec =
-    tie.close (tie.spec blank-text-requires slice-aggregate-put-sheet put-sheet-requires returns)
+sheet-text-spec = tie.close (tie.spec (λ c κs. search needs) (λ c. omega (arith, room (c .before))) put-sheet-requires returns)

@@ -1,4 +1,4 @@
--- `table_text::put_table` meets its contract: the first line goes first, and the lines of the rows behind it.
+-- `table_text::put_table` meets its contract: the first line goes first, and the lines of the cells behind it.
 use Prim.Native.Nat.{ℕ, _+_, _-_, _≤_}
 use mathlib.Core.Path.{_≡_, refl, ap}
 use mathlib.Core.List.{List, [], _++_}
@@ -7,117 +7,91 @@ use borrow.Author.Needs.{needs}
 use lib.ListN.{length, take, drop}
 use Rattle.rules.specs.Folds.{flat}
 use Rattle.rules.specs.Sheet.{firstLine, tableText}
-use Rattle.rules.proofs.Sound.{opens-length}
-use Rattle.logs.proofs.Written.{body-lent, Read, read-rows}
-use Rattle.table_text.specs.Onto.{rowLines}
-use Rattle.table_text.proofs.Writing.{Writing, back, fits-whole, first, fits-last, last, end}
+use Rattle.grid.proofs.Places.{rest-lent}
+use Rattle.grid.proofs.TableRead.{Read, table-opened}
+use Rattle.tables.proofs.Stored.{lent-cells}
+use Rattle.table_text.specs.Lines.{linesFrom}
+use Rattle.table_text.proofs.Writing.{Writing, back, inside, fits-whole, first, fits-last, last, end}
 use Rattle.table_text.proofs.Texts.{table-text}
 use Rattle.table_text.proofs.put_table.Statement.{statement}
 use Rattle.table_text.proofs.put_table.Tie as tie
 
-shared-slice-read-w : tie.Need-shared-slice-read-w
-shared-slice-read-w c = let s = c .before .before .before in omega (arith, opens-length (s .args .table .now) (s .pre .0 .opens))
+-- The places of the function, each seen from the next.
+abbrev opening : tie.After-animals-of → tie.Start
+opening c = c .before .before .before .before
 
--- The words after the opening word, as they are lent.
-abbrev body : List ℕ → List ℕ
-body T = take (length T - 1) (drop 1 T)
+abbrev entry : tie.After-carry-of → tie.Start
+entry c = opening (c .before .before)
+
+abbrev numbers : tie.After-put-first-line → tie.After-carry-of
+numbers c = c .before .before
+
+abbrev titled : tie.After-put-all-cells-arg → tie.After-put-first-line
+titled c = c .before .before .before
+
+abbrev before-last : tie.After-put-all-cells → tie.After-put-all-cells-arg
+before-last c = c .before .before
+
+-- The table, its first line and the lines of its cells, by the numbers as they were read.
+abbrev T : tie.After-carry-of → List ℕ
+T c = entry c .args .table .now
+
+abbrev body : tie.After-carry-of → List ℕ
+body c = take (length (T c) - 1) (drop 1 (T c))
+
+abbrev title : tie.After-carry-of → List ℕ
+title c = firstLine (c .before .before .animals-of .result) (c .before .ticks-of .result) (c .carry-of .result) (entry c .args .held)
+
+abbrev lines : tie.After-carry-of → List ℕ
+lines c = flat (linesFrom (c .before .ticks-of .result + 1) (c .before .before .animals-of .result) (body c)) (c .before .before .animals-of .result)
 
 -- The numbers as they were read.
-read : (c : tie.After-carry-of)
-    → let t = c .before in
-    let a = t .before in
-    let s = a .before .before .before .before .args in
-    Read (s .table .now) (a .animals-of .result) (t .ticks-of .result + 1) (c .carry-of .result) (body (s .table .now))
+read : (c : tie.After-carry-of) → Read (T c) (c .before .before .animals-of .result) (c .before .ticks-of .result + 1) (c .carry-of .result) (body c)
 read c =
-    let t = c .before in
-    let a = t .before in
-    let s = a .before .before .before .before .args in
     record {
-      animals-is = a .animals-of .ensures;
-      size-is = ap (λ (m : ℕ). m + 1) (t .ticks-of .ensures);
+      animals-is = c .before .before .animals-of .ensures;
+      size-is = ap (λ (m : ℕ). m + 1) (c .before .ticks-of .ensures);
       carry-is = c .carry-of .ensures;
-      lent-is = body-lent (s .table .now);
+      lent-is = rest-lent (T c);
     }
 
 -- The table has an opening word.
-opened : (c : tie.After-carry-of) → 1 ≤ length (c .before .before .before .before .before .before .args .table .now)
-opened c = let s = c .before .before .before .before .before .before in omega (arith, opens-length (s .args .table .now) (s .pre .0 .opens))
+opened : (c : tie.After-carry-of) → 1 ≤ length (T c)
+opened c = table-opened (T c) (entry c .pre .0)
 
--- The text of the table: the first line, then the lines of the rows.
-text : (c : tie.After-carry-of)
-    → let t = c .before in
-    let a = t .before in
-    let s = a .before .before .before .before .args in
-    firstLine (a .animals-of .result) (t .ticks-of .result) (c .carry-of .result) (s .held) ++ flat (rowLines (t .ticks-of .result + 1) (a .animals-of .result) (body (s .table .now))) (a .animals-of .result)
-    ≡ tableText (s .table .now)
-text c =
-    let t = c .before in
-    let s = t .before .before .before .before .before in
-    table-text (s .args .table .now) (read c) (t .ticks-of .result) (s .args .held) (t .ticks-of .ensures) (s .pre .1 .0)
-
-put-first-line-requires : tie.Need-put-first-line-requires
-put-first-line-requires c κs =
-    let r = c .before in
-    let t = r .before in
-    let a = t .before in
-    let s = a .before .before .before .before in
-    fits-whole _ (s .args .out .now) (firstLine (a .animals-of .result) (t .ticks-of .result) (r .carry-of .result) (s .args .held)) _ (text r) (s .pre .1 .1)
+-- The text of the table: the first line, then the lines of the cells.
+text : (c : tie.After-carry-of) → title c ++ lines c ≡ tableText (T c)
+text c = table-text (T c) (read c) _ _ (c .before .ticks-of .ensures) (entry c .pre .1 .0)
 
 -- The first line is written.
 wrote1 : (c : tie.After-put-first-line)
-    → let t = c .before .before .before in
-    let a = t .before in
-    let s = a .before .before .before .before .args in
-    Writing (tableText (s .table .now)) (s .out .now) (c .put-first-line .last .1 .1 .1 .1 .0) (c .put-first-line .result)
-    (flat (rowLines (t .ticks-of .result + 1) (a .animals-of .result) (body (s .table .now))) (a .animals-of .result))
-wrote1 c =
-    let r = c .before .before in
-    let s = r .before .before .before .before .before .before in
-    first _ _ _ _ (text r) (c .put-first-line .ensures .0) (c .put-first-line .ensures .1) (s .pre .1 .1)
+    → let r = numbers c in
+    Writing (tableText (T r)) (entry r .args .out .now) (c .put-first-line .last .1 .1 .1 .1 .0) (c .put-first-line .result) (lines r)
+wrote1 c = let r = numbers c in first _ (title r) _ _ (text r) (c .put-first-line .ensures .0) (c .put-first-line .ensures .1) (entry r .pre .1 .1)
 
-sub-put-rows : tie.Need-sub-put-rows
-sub-put-rows c = omega (arith, opened (c .before .before .before .before))
+-- The lines of the cells are written.
+wrote2 : (c : tie.After-put-all-cells)
+    → let p = titled (before-last c) in
+    let r = numbers p in
+    Writing (tableText (T r)) (entry r .args .out .now) (back (p .put-first-line .last .1 .1 .1 .1 .0) (p .put-first-line .result) (c .put-all-cells .last .1 .1 .1 .0)) (p .put-first-line .result + c .put-all-cells .result) []
+wrote2 c = last (wrote1 (titled (before-last c))) _ _ _ refl (c .put-all-cells .ensures .0) (c .put-all-cells .ensures .1)
 
-part-put-rows-start : tie.Need-part-put-rows-start
-part-put-rows-start c = omega (arith, opened (c .before .before .before .before))
+put-first-line-requires : tie.Need-put-first-line-requires
+put-first-line-requires c κs = let r = c .before in fits-whole _ (entry r .args .out .now) (title r) _ (text r) (entry r .pre .1 .1)
 
-sub-put-rows-2 : tie.Need-sub-put-rows-2
-sub-put-rows-2 c = omega (arith, wrote1 (c .before .before .before) .room)
-
-part-put-rows-start-2 : tie.Need-part-put-rows-start-2
-part-put-rows-start-2 c = omega (arith, wrote1 (c .before .before .before) .room)
-
-put-rows-requires : tie.Need-put-rows-requires
-put-rows-requires c κs =
-    let p = c .before .before .before .before in
-    let r = p .before .before in
-    let t = r .before in
-    let a = t .before in
-    let s = a .before .before .before .before in (
-      read-rows (s .args .table .now) (s .pre .0) (read r),
-      fits-last (wrote1 p) (flat (rowLines (t .ticks-of .result + 1) (a .animals-of .result) (body (s .args .table .now))) (a .animals-of .result)) refl,
-    )
-
--- The lines of the rows are written.
-wrote2 : (c : tie.After-put-rows)
-    → let p = c .before .before .before .before .before in
-    let s = p .before .before .before .before .before .before .before .before .args in
-    Writing (tableText (s .table .now)) (s .out .now) (back (p .put-first-line .last .1 .1 .1 .1 .0) (p .put-first-line .result) (c .put-rows .last .1 .1 .1 .0)) (p .put-first-line .result + c .put-rows .result) []
-wrote2 c = last (wrote1 (c .before .before .before .before .before)) _ _ _ refl (c .put-rows .ensures .0) (c .put-rows .ensures .1)
-
-add-result : tie.Need-add-result
-add-result c = let w = wrote2 (c .before .before) in omega (arith, w .room, w .kept)
-
-same-length : tie.Need-same-length
-same-length c = wrote2 (c .before .before) .kept
-
-returns : tie.Need-returns
-returns c = let e = end (wrote2 (c .before .before)) refl in (omega (arith, e .0), e .1)
+put-all-cells-requires : tie.Need-put-all-cells-requires
+put-all-cells-requires c κs =
+    let p = titled (c .before) in
+    let r = numbers p in
+    (lent-cells (T r) (entry r .pre .0) _ _ (read r .animals-is) (read r .size-is), fits-last (wrote1 p) (lines r) refl)
 
 pub put-table-spec : {M : Type 1} → statement M
 put-table-spec =
     tie.close
     (tie.spec
-    shared-slice-read-w (λ c κs. search needs) (λ c κs. search needs) (λ c. search needs) (λ c. search needs) (λ c κs. search needs)
-    put-first-line-requires sub-put-rows part-put-rows-start (λ c. search needs) sub-put-rows-2 part-put-rows-start-2 (λ c. search needs)
-    put-rows-requires add-result same-length returns)
+    (λ c. let s = c .before .before .before in omega (arith, table-opened (s .args .table .now) (s .pre .0))) (λ c κs. search needs)
+    (λ c κs. search needs) (λ c. search needs) (λ c. search needs) (λ c κs. search needs) put-first-line-requires
+    (λ c. omega (arith, opened (numbers (c .before .before)))) (λ c. omega (arith, opened (numbers (c .before .before)))) (λ c. search needs)
+    (λ c. omega (arith, inside (wrote1 (titled c)))) (λ c. omega (arith, inside (wrote1 (titled c)))) (λ c. search needs) put-all-cells-requires
+    (λ c. omega (arith, inside (wrote2 (c .before .before)))) (λ c. wrote2 (c .before .before) .kept)
+    (λ c. let e = end (wrote2 (c .before .before)) refl in (omega (arith, e .0), e .1)))

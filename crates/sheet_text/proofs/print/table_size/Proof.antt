@@ -1,4 +1,4 @@
--- `print::table_size` meets its contract.
+-- `print::table_size` meets its contract: what is no log needs no table, any other the one that its first word says.
 use borrow.Author.Needs.{needs}
 use mathlib.Core.Path.{ap₂, _∙_}
 use native.Mathlib.Omega.{arith}
@@ -7,15 +7,24 @@ use Rattle.sheet_text.proofs.Printed.{size-short, size-other, size-smal
 use Rattle.sheet_text.proofs.print.table_size.Statement.{statement}
 use Rattle.sheet_text.proofs.print.table_size.Tie as tie
 
-returns : tie.Need-returns
-returns c = (omega arith, size-short (c .before .before .args .log .now) (c .if1 .taken) _)
+-- The entry of the function, seen from the test of the first word, and that test, seen from the table's length.
+abbrev entry : tie.After-is-opening → tie.Start
+entry c = c .before .before .before .before
 
-returns-2 : tie.Need-returns-2
-returns-2 c = (omega arith, size-other (c .before .before .before .before .before .args .log .now) _ (c .before .is-opening .ensures) (c .if2 .taken) _)
+abbrev opens : tie.After-table-length → tie.After-is-opening
+opens c = c .before .before .before
 
 returns-3 : tie.Need-returns-3
-returns-3 c = (omega (arith, size-small (c .before .before .before .before .before .before .before .args .log .now) _ (c .before .before .before .is-opening .ensures) (c .before .before .if2 .left) (c .before .before .before .before .before .before .before .pre), (c .table-length .ensures ∙ ap₂ tableLength (c .before .of-word .ensures .0) (c .before .of-word .ensures .1))), λ q. (c .table-length .ensures ∙ ap₂ tableLength (c .before .of-word .ensures .0) (c .before .of-word .ensures .1)))
+returns-3 c =
+    let o = opens c in
+    let s = entry o in
+    let e = c .table-length .ensures ∙ ap₂ tableLength (c .before .of-word .ensures .0) (c .before .of-word .ensures .1) in
+    (omega (arith, size-small (s .args .log .now) _ (o .is-opening .ensures) (c .before .before .if2 .left) (s .pre), e), λ q. e)
 
 pub table-size-spec : {M : Type 1} → statement M
 table-size-spec =
-    tie.close (tie.spec returns (λ c. search needs) (λ c κs. search needs) returns-2 (λ c κs. search needs) (λ c κs. search needs) returns-3)
+    tie.close
+    (tie.spec
+    (λ c. (omega arith, size-short (c .before .before .args .log .now) (c .if1 .taken) _)) (λ c. search needs) (λ c κs. search needs)
+    (λ c. (omega arith, size-other (entry (c .before) .args .log .now) _ (c .before .is-opening .ensures) (c .if2 .taken) _)) (λ c κs. search needs)
+    (λ c κs. search needs) returns-3)

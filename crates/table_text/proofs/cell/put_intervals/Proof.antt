@@ -1,73 +1,67 @@
 -- `cell::put_intervals` meets its contract. The loop's invariant: the text of the rows that are left is left to write.
 -- The measure is how many rows are left.
-use Prim.Native.Nat.{ℕ, _+_, _-_, _≤_}
-use mathlib.Core.Path.{ap, _∙_}
+use Prim.Native.Nat.{_+_, _-_}
 use native.Mathlib.Omega.{arith}
 use borrow.Author.Needs.{needs}
-use lib.ListN.{length, getD}
+use lib.ListN.{getD}
 use Rattle.words.specs.Words.{intervalOf}
 use Rattle.rules.specs.Layout.{cellOf}
 use Rattle.rules.specs.Sheet.{intervalText, intervalsText}
-use Rattle.table_text.proofs.Writing.{Writing, back, start, fits, piece, end}
-use Rattle.table_text.proofs.Texts.{left, left-start, left-next, left-end}
+use Rattle.grid.proofs.RowsInUse.{rowsFrom, RowLoop, rows-begin, rows-turn}
+use Rattle.cells.proofs.Lent.{count-fits}
+use Rattle.table_text.proofs.Writing.{Writing, back, inside, start, fits, piece, end}
+use Rattle.table_text.proofs.Texts.{all-left, next-left, none-left}
 use Rattle.table_text.proofs.cell.put_intervals.Statement.{statement}
 use Rattle.table_text.proofs.cell.put_intervals.Tie as tie
 
 abbrev Inv-loop : tie.InvT-loop
-Inv-loop cell out₀ end at₀ i₀ out at i = (i ≤ end) × (end ≤ length cell) × Writing (intervalsText (cellOf cell)) out₀ out at (left cell end i)
+Inv-loop cell out₀ end at₀ i₀ out at i = RowLoop cell end i × Writing (intervalsText (cellOf cell)) out₀ out at (intervalsText (rowsFrom cell end i))
 
 abbrev μ-loop : tie.MeasureT-loop
 μ-loop cell out₀ end at₀ i₀ out at i = end - i
 
+-- The entry of the function, seen from the head of the loop and from the loop, and the turn that a row was written in.
+abbrev begin : tie.After-rows-of Inv-loop μ-loop → tie.Start Inv-loop μ-loop
+begin c = c .before .before .before .before
+
+abbrev entry : tie.At-loop Inv-loop μ-loop → tie.Start Inv-loop μ-loop
+entry c = begin (c .before)
+
+abbrev turn : tie.After-put-interval Inv-loop μ-loop → tie.In-loop Inv-loop μ-loop
+turn c = c .before .before .before
+
 loop-holds : tie.Need-loop-holds Inv-loop μ-loop
 loop-holds c =
-    let s = c .before .before .before .before in
+    let s = begin c in
     let x = s .args .cell .now in
     let e = c .rows-of .ensures in
-    (omega arith, omega (arith, s .pre .0, e), start _ _ _ (ap (λ (n : ℕ). left x (n + 1) 1) e ∙ left-start x (s .pre .0)) (s .pre .1))
-
-sub-put-interval : tie.Need-sub-put-interval Inv-loop μ-loop
-sub-put-interval c = omega (arith, c .before .before .loop .inv .2 .room)
-
-part-put-interval-start : tie.Need-part-put-interval-start Inv-loop μ-loop
-part-put-interval-start c = omega (arith, c .before .before .loop .inv .2 .room)
+    (rows-begin x _ e (count-fits x (s .pre .0)), start _ _ _ (all-left x _ e (s .pre .0)) (s .pre .1))
 
 put-interval-requires : tie.Need-put-interval-requires Inv-loop μ-loop
 put-interval-requires c κs =
     let t = c .before .before in
     let l = t .before in
-    let x = l .before .before .before .before .before .args .cell .now in
-    fits (l .loop .inv .2) (intervalText (intervalOf (getD x (l .loop .i) 0))) _ (left-next x _ (l .loop .i) (t .loop-test .taken) (l .loop .inv .1))
+    fits (l .loop .inv .1) (intervalText (intervalOf (getD (entry l .args .cell .now) (l .loop .i) 0))) _ (next-left (l .loop .inv .0) (t .loop-test .taken))
 
 -- One more row is written.
 wrote : (c : tie.After-put-interval Inv-loop μ-loop)
-    → let l = c .before .before .before .before in
-    let h = l .before in
-    let s = h .before .before .before .before .args in
+    → let l = turn c .before in
+    let s = entry l .args in
     Writing (intervalsText (cellOf (s .cell .now))) (s .out .now) (back (l .loop .out) (l .loop .at) (c .put-interval .last .1 .0)) (l .loop .at + c .put-interval .result)
-    (left (s .cell .now) (h .rows-of .result + 1) (l .loop .i + 1))
+    (intervalsText (rowsFrom (s .cell .now) (l .before .rows-of .result + 1) (l .loop .i + 1)))
 wrote c =
-    let t = c .before .before .before in
+    let t = turn c in
     let l = t .before in
-    let x = l .before .before .before .before .before .args .cell .now in
-    piece (l .loop .inv .2) _ _ _ _ (left-next x _ (l .loop .i) (t .loop-test .taken) (l .loop .inv .1)) (c .put-interval .ensures .0) (c .put-interval .ensures .1)
-
-add-at : tie.Need-add-at Inv-loop μ-loop
-add-at c = let w = wrote (c .before .before) in omega (arith, w .room, w .kept)
+    piece (l .loop .inv .1) _ _ _ _ (next-left (l .loop .inv .0) (t .loop-test .taken)) (c .put-interval .ensures .0) (c .put-interval .ensures .1)
 
 loop-again : tie.Need-loop-again Inv-loop μ-loop
-loop-again c = (omega arith, c .before .before .before .before .before .before .loop .inv .1, wrote (c .before .before))
-
-same-length : tie.Need-same-length Inv-loop μ-loop
-same-length c = c .before .loop .inv .2 .kept
-
-returns : tie.Need-returns Inv-loop μ-loop
-returns c = let l = c .before in end (l .loop .inv .2) (left-end (l .before .before .before .before .before .args .cell .now) _ (l .loop .i) (c .loop-test .left))
+loop-again c = let k = c .before .before in let t = turn k in (rows-turn (t .before .loop .inv .0) (t .loop-test .taken), wrote k)
 
 pub put-intervals-spec : {M : Type 1} → statement M
 put-intervals-spec =
     tie.close
     (tie.spec
-    Inv-loop μ-loop (λ c. omega arith) (λ c κs. search needs) (λ c. omega arith) (λ c. omega arith) loop-holds (λ c. omega arith) (λ c. omega arith)
-    sub-put-interval part-put-interval-start (λ c. search needs) put-interval-requires add-at (λ c. omega arith) (λ c. omega arith) loop-again
-    same-length returns)
+    Inv-loop μ-loop (λ c. omega (arith, c .before .before .before .pre .0 .long)) (λ c κs. search needs) (λ c. omega arith) (λ c. omega arith) loop-holds (λ c. omega arith) (λ c. omega arith)
+    (λ c. omega (arith, inside (c .before .before .loop .inv .1))) (λ c. omega (arith, inside (c .before .before .loop .inv .1))) (λ c. search needs)
+    put-interval-requires (λ c. omega (arith, inside (wrote (c .before .before)))) (λ c. omega arith) (λ c. omega arith) loop-again
+    (λ c. c .before .loop .inv .1 .kept) (λ c. end (c .before .loop .inv .1) (none-left (c .before .loop .inv .0) (c .loop-test .left))))
