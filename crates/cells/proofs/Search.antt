@@ -3,7 +3,7 @@ use mathlib.Core.Path.{_≡_, refl, ap}
 use mathlib.Core.Bool.{Bool, true, false, cond, _||_}
 use mathlib.Core.Option.{Option, none, some}
 use mathlib.Core.List.{List, [], _∷_, map, List·Memᴰ, List·Memᴰ·head, List·Memᴰ·tail}
-use Prim.Native.Nat.{ℕ, zero, suc, _+_, _≤_, _<_, min}
+use Prim.Native.Nat.{ℕ, zero, suc, _+_, _-_, _/_, _≤_, _<_, min}
 use native.Mathlib.Omega.{arith}
 use lib.ListN.{length, getD, length-map, List·getD-map}
 use borrow.Author.Tests.{le-leb, lt-leb, ne-eqb}
@@ -120,6 +120,41 @@ module _ (f : Interval → ℕ) (t : ℕ) where
     pub front-gt-word : Follows f → Rising (map intervalOf rows) → f (intervalOf (getD rows k 0)) < t → k < frontBelow f t (map intervalOf rows)
     front-gt-word up u h =
         front-gt up (map intervalOf rows) k (intervalOf 0) u (omega (arith, length-map rows intervalOf)) (rw (List·getD-map intervalOf rows k 0) h)
+
+-- ---- a search by halves
+
+-- A search by halves for the end f and the tick t among the rows has come to lo and hi: its place lies between them.
+pub record Halves (f : Interval → ℕ) (t : ℕ) (rows : List ℕ) (lo hi : ℕ) : Type 0 where
+  pub lower : lo ≤ frontBelow f t (map intervalOf rows)
+  pub upper : frontBelow f t (map intervalOf rows) ≤ hi
+  pub within : hi ≤ length rows
+
+-- The row that it looks at next.
+abbrev pub middle : ℕ → ℕ → ℕ
+middle lo hi = lo + (hi - lo) / 2
+
+module _ (f : Interval → ℕ) (t : ℕ) (rows : List ℕ) where
+  -- It starts with all rows.
+  pub halves-start : Halves f t rows 0 (length rows)
+  halves-start =
+      record { lower = omega arith; upper = omega (arith, front-length f t (map intervalOf rows), length-map rows intervalOf); within = omega arith }
+
+  module _ (lo hi : ℕ) (h : Halves f t rows lo hi) (l : lo < hi) where
+    -- Where the row has its end below t, it goes on behind it.
+    pub halves-behind : Follows f → Rising (map intervalOf rows) → f (intervalOf (getD rows (middle lo hi) 0)) < t → Halves f t rows (middle lo hi + 1) hi
+    halves-behind up u e =
+        let w = h .within in
+        record { lower = omega (arith, front-gt-word f t rows (middle lo hi) (omega arith) up u e); upper = h .upper; within = w }
+
+    -- Where it has not, it goes on in front of it.
+    pub halves-front : t ≤ f (intervalOf (getD rows (middle lo hi) 0)) → Halves f t rows lo (middle lo hi)
+    halves-front e =
+        let w = h .within in
+        record { lower = h .lower; upper = front-le-word f t rows (middle lo hi) (omega arith) e; within = omega arith }
+
+  -- Where nothing is left between them, the place is found.
+  pub halves-end : (lo hi : ℕ) → Halves f t rows lo hi → hi ≤ lo → lo ≡ frontBelow f t (map intervalOf rows)
+  halves-end lo hi h l = omega (arith, h .lower, h .upper)
 
 -- ---- the latest departure
 

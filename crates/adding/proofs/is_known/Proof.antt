@@ -5,6 +5,7 @@ use borrow.Author.Needs.{needs}
 use Rattle.journeys.specs.Journey.{interval}
 use Rattle.rules.specs.Layout.{cellOf}
 use Rattle.rules.specs.Adding.{stands}
+use Rattle.cells.proofs.Lent.{stored-in-use}
 use Rattle.adding.proofs.Places.{Place, place}
 use Rattle.adding.proofs.is_known.Statement.{statement}
 use Rattle.adding.proofs.is_known.Tie as tie
@@ -32,7 +33,7 @@ part-stands-end : tie.Need-part-stands-end
 part-stands-end c = let p = here c in omega arith
 
 stands-requires : tie.Need-stands-requires
-stands-requires c κs = here (c .before) .stored
+stands-requires c κs = stored-in-use (here (c .before) .stored)
 
 returns : tie.Need-returns
 returns c =

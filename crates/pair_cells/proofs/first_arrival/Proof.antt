@@ -1,11 +1,12 @@
 -- `first_arrival` meets its contract: the cell read is the one from u to v.
 use borrow.Author.Needs.{needs}
+use Rattle.cells.proofs.Lent.{stored-in-use}
 use Rattle.pair_cells.proofs.Read.{arrival-read}
 use Rattle.pair_cells.proofs.first_arrival.Statement.{statement}
 use Rattle.pair_cells.proofs.first_arrival.Tie as tie
 
 earliest-arrival-requires : tie.Need-earliest-arrival-requires
-earliest-arrival-requires c κs = c .before .span-of .ensures .stored
+earliest-arrival-requires c κs = stored-in-use (c .before .span-of .ensures .stored)
 
 returns : tie.Need-returns
 returns c =

@@ -1,11 +1,12 @@
 -- `last_departure` meets its contract: the cell read is the one from u to v.
 use borrow.Author.Needs.{needs}
+use Rattle.cells.proofs.Lent.{stored-in-use}
 use Rattle.pair_cells.proofs.Read.{departure-read}
 use Rattle.pair_cells.proofs.last_departure.Statement.{statement}
 use Rattle.pair_cells.proofs.last_departure.Tie as tie
 
 latest-departure-requires : tie.Need-latest-departure-requires
-latest-departure-requires c κs = c .before .span-of .ensures .stored
+latest-departure-requires c κs = stored-in-use (c .before .span-of .ensures .stored)
 
 returns : tie.Need-returns
 returns c =

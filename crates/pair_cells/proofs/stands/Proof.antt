@@ -1,12 +1,13 @@
 -- `stands` meets its contract: the cell read is the one from u to v.
 use borrow.Author.Needs.{needs}
 use Rattle.journeys.specs.Journey.{interval}
+use Rattle.cells.proofs.Lent.{stored-in-use}
 use Rattle.pair_cells.proofs.Read.{stands-read}
 use Rattle.pair_cells.proofs.stands.Statement.{statement}
 use Rattle.pair_cells.proofs.stands.Tie as tie
 
 stands-requires : tie.Need-stands-requires
-stands-requires c κs = c .before .span-of .ensures .stored
+stands-requires c κs = stored-in-use (c .before .span-of .ensures .stored)
 
 returns : tie.Need-returns
 returns c =

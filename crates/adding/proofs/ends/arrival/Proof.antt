@@ -1,6 +1,7 @@
 -- `ends::arrival` meets its contract: the cell read is the one from v to y.
 use native.Mathlib.Omega.{arith}
 use borrow.Author.Needs.{needs}
+use Rattle.cells.proofs.Lent.{stored-in-use}
 use Rattle.adding.proofs.Places.{Place, place}
 use Rattle.adding.proofs.Ticks.{arriving-self, arriving-other}
 use Rattle.adding.proofs.ends.arrival.Statement.{statement}
@@ -32,7 +33,7 @@ part-earliest-arrival-end : tie.Need-part-earliest-arrival-end
 part-earliest-arrival-end c = let p = here c in omega arith
 
 earliest-arrival-requires : tie.Need-earliest-arrival-requires
-earliest-arrival-requires c κs = here (c .before) .stored
+earliest-arrival-requires c κs = stored-in-use (here (c .before) .stored)
 
 returns-2 : tie.Need-returns-2
 returns-2 c = let h = c .before .before in arriving-other _ _ _ _ _ _ (h .if1 .left) _ _ (here h .lent) (c .earliest-arrival .ensures)

@@ -1,6 +1,7 @@
 -- `ends::departure` meets its contract: the cell read is the one from x to u.
 use native.Mathlib.Omega.{arith}
 use borrow.Author.Needs.{needs}
+use Rattle.cells.proofs.Lent.{stored-in-use}
 use Rattle.adding.proofs.Places.{Place, place}
 use Rattle.adding.proofs.Ticks.{departing-self, departing-other}
 use Rattle.adding.proofs.ends.departure.Statement.{statement}
@@ -32,7 +33,7 @@ part-latest-departure-end : tie.Need-part-latest-departure-end
 part-latest-departure-end c = let p = here c in omega arith
 
 latest-departure-requires : tie.Need-latest-departure-requires
-latest-departure-requires c κs = here (c .before) .stored
+latest-departure-requires c κs = stored-in-use (here (c .before) .stored)
 
 returns-2 : tie.Need-returns-2
 returns-2 c = let h = c .before .before in departing-other _ _ _ _ _ _ (h .if1 .left) _ _ (here h .lent) (c .latest-departure .ensures)
