@@ -1,5 +1,4 @@
 -- The six words of document 01, packed and read again: each law is an instance of the laws of `Fields`.
---
 use mathlib.Core.Path.{_≡_, ap, _∙_}
 use mathlib.Core.Bool.{true}
 use mathlib.Core.List.{List, [], _∷_}
