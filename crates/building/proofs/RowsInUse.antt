@@ -17,9 +17,9 @@ use Rattle.words.proofs.Packed.{intervalOf-word, rowsOf-word}
 use Rattle.rules.specs.Limits.{maxTicks, maxArrival, maxCellWords}
 use Rattle.rules.specs.Layout.{cellOf}
 use Rattle.rules.proofs.Folds.{map-back}
-use Rattle.cells.specs.Stored.{departureEnd, arrivalEnd, frontBelow, orZero}
+use Rattle.cells.specs.Stored.{RowsInUse, departureEnd, arrivalEnd, frontBelow, orZero}
 use Rattle.cells.proofs.Search.{front-length, latest-none, latest-some}
-use Rattle.cells.proofs.Lent.{lent-is, row-is}
+use Rattle.cells.proofs.Lent.{row-is}
 use Rattle.building.specs.RowsInUse.{withRows, InUse}
 
 -- ---- what the words say
@@ -82,46 +82,9 @@ pub counted : {n : ℕ} {xs : List ℕ} → InUse xs → n ≡ get rowsField (ge
 counted {n} {xs} s e =
     record { in-use = s; rows = e ∙ count-is xs s; fits = omega (arith, count-is xs s, s .fits); short = s .short }
 
--- ---- the latest departure
-
--- The rows in use, lent as cell[1..e], are the cell's intervals.
-lent-cell : (xs : List ℕ) (e : ℕ) → InUse xs → e ≡ get rowsField (getD xs 0 0) + 1 → map intervalOf (take (e - 1) (drop 1 xs)) ≡ cellOf xs
-lent-cell xs e s h = lent-is xs e h (omega (arith, s .fits))
-
--- They rise.
-pub lent-rising : (xs : List ℕ) (e : ℕ) → InUse xs → e ≡ get rowsField (getD xs 0 0) + 1 → Rising (map intervalOf (take (e - 1) (drop 1 xs)))
-lent-rising xs e s h = rw (lent-cell xs e s h) (s .rising)
-
--- A search for the last arrival by t in the rows lent as cell[1..e] found r.
-pub record Found (t : ℕ) (xs : List ℕ) (e r : ℕ) : Type 0 where
-  pub in-use : InUse xs
-  pub lent : e ≡ get rowsField (getD xs 0 0) + 1
-  pub place : r ≡ frontBelow arrivalEnd (t + 1) (map intervalOf (take (e - 1) (drop 1 xs)))
-
-module _ {t : ℕ} {xs : List ℕ} {e r : ℕ} (g : Found t xs e r) where
-  -- The number found is that of the cell.
-  found-is : r ≡ frontBelow arrivalEnd (t + 1) (cellOf xs)
-  found-is = g .place ∙ ap (frontBelow arrivalEnd (t + 1)) (lent-cell xs e (g .in-use) (g .lent))
-
-  -- It stands within the cell.
-  pub found-below : r < length xs
-  found-below = omega (arith, found-is, front-length arrivalEnd (t + 1) (cellOf xs), g .in-use .fits)
-
-  -- There is no departure where no row arrives by t.
-  pub latest-zero : r ≡ 0 → 0 ≡ orZero (latestDeparture (cellOf xs) t)
-  latest-zero z = ap orZero (sym (latest-none t (cellOf xs) (g .in-use .rising) (omega (arith, found-is))))
-
-  -- Else the latest departure is that of the word at r.
-  pub latest-word : r ≢ 0 → get departureField (getD xs r 0) ≡ orZero (latestDeparture (cellOf xs) t)
-  latest-word n = go r found-is n
-    where
-      go : (r : ℕ) → r ≡ frontBelow arrivalEnd (t + 1) (cellOf xs) → r ≢ 0 → get departureField (getD xs r 0) ≡ orZero (latestDeparture (cellOf xs) t)
-      go zero q n = absurd (n refl)
-      go (suc k) q n =
-          sym
-          (ap orZero (latest-some t (cellOf xs) k (intervalOf 0) (g .in-use .rising) (sym q))
-          ∙ ap departureEnd (row-is xs k (omega (arith, front-length arrivalEnd (t + 1) (cellOf xs))))
-          ∙ ap (λ (i : ℕ). get departureField (getD xs i 0)) (add-one k))
+-- The rows in use end within the words.
+pub rows-in-use-of : {xs : List ℕ} → InUse xs → RowsInUse xs
+rows-in-use-of {xs} s = record { within = omega (arith, count-is xs s, s .fits); rising = s .rising }
 
 -- ---- the last row
 

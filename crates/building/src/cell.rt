@@ -6,19 +6,6 @@ ghost use Rattle.rules.specs.Layout.{cellOf};
 ghost use Rattle.cells.specs.Stored.{orZero};
 ghost use Rattle.building.specs.RowsInUse.{putWords, InUse, CanPutLast};
 
-// The latest departure of the rows in use that arrives by t, or 0 where there is none, found by halves.
-fn search_departure(cell: &[u32], t: u32) -> u32
-    requires { ⌜ InUse (now cell) ⌝ }
-    ensures { λ r. ⌜ r ≡ orZero (latestDeparture (cellOf (now (cell .entry))) t) ⌝ }
-{
-    let end = words::rows_of(cell[0]) as usize + 1;
-    let last = cells::upper_bound_arrival(&cell[1..end], t);
-    if last == 0 {
-        return 0;
-    }
-    words::departure_of(cell[last])
-}
-
 // The latest departure of the rows in use that arrives by t, or 0 where there is none. The last row is looked at first, since
 // it is the one in most cells of a build.
 pub(crate) fn departure_by(cell: &[u32], t: u32) -> u32
@@ -33,7 +20,7 @@ pub(crate) fn departure_by(cell: &[u32], t: u32) -> u32
     if words::arrival_of(w) <= t {
         return words::departure_of(w);
     }
-    search_departure(cell, t)
+    cells::latest_departure(cell, t)
 }
 
 // Puts [d, a] at the end of the rows in use.

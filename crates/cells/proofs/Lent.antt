@@ -16,7 +16,7 @@ use Rattle.words.specs.Words.{rowsField, departureField, arrivalField, interval
 use Rattle.words.proofs.Packed.{rowsOf-word}
 use Rattle.rules.specs.Layout.{cellWords, cellOf}
 use Rattle.rules.specs.Adding.{sameInterval, stands}
-use Rattle.cells.specs.Stored.{Stored, departureEnd, arrivalEnd, frontBelow, orZero}
+use Rattle.cells.specs.Stored.{Stored, RowsInUse, departureEnd, arrivalEnd, frontBelow, orZero}
 use Rattle.cells.proofs.Search.{front-length, latest-none, latest-some, earliest-none, earliest-some, stands-none, stands-some}
 
 -- A cell has no more intervals than rows.
@@ -37,6 +37,16 @@ pub count-fits : (xs : List ℕ) → Stored xs → get rowsField (getD xs 0 0) +
 count-fits [] s = absurd (omega (arith, s .long))
 count-fits (w ∷ ws) s = omega (arith, count-is (w ∷ ws) s, cell-short w ws)
 
+-- So a stored cell has its rows in use within it.
+pub stored-in-use : {xs : List ℕ} → Stored xs → RowsInUse xs
+stored-in-use {xs} s = record { within = omega (arith, count-fits xs s); rising = s .rising }
+
+-- Where the rows in use end within the words, their count is that of the cell's intervals.
+pub in-use-length : (xs : List ℕ) → RowsInUse xs → length (cellOf xs) ≡ get rowsField (getD xs 0 0)
+unfolding cellOf
+in-use-length [] s = absurd (omega (arith, s .within))
+in-use-length (w ∷ ws) s = omega (arith, s .within, length-map (take (get rowsField w) ws) intervalOf, length-take (get rowsField w) ws)
+
 -- The rows in use, lent, are the cell's intervals.
 pub lent-is : (xs : List ℕ) (e : ℕ) → e ≡ get rowsField (getD xs 0 0) + 1 → 1 ≤ length xs → map intervalOf (take (e - 1) (drop 1 xs)) ≡ cellOf xs
 unfolding cellOf
@@ -56,22 +66,22 @@ row-is (w ∷ ws) k l =
 
 -- A search for the end f and the tick t in the rows lent as cell[1..e] found r.
 pub record Found (f : Interval → ℕ) (t : ℕ) (xs : List ℕ) (e r : ℕ) : Type 0 where
-  pub stored : Stored xs
+  pub in-use : RowsInUse xs
   pub lent : e ≡ get rowsField (getD xs 0 0) + 1
   pub place : r ≡ frontBelow f t (map intervalOf (take (e - 1) (drop 1 xs)))
 
 -- The lent rows rise.
-pub lent-rising : (xs : List ℕ) (e : ℕ) → Stored xs → e ≡ get rowsField (getD xs 0 0) + 1 → Rising (map intervalOf (take (e - 1) (drop 1 xs)))
-lent-rising xs e s h = rw (lent-is xs e h (s .long)) (s .rising)
+pub lent-rising : (xs : List ℕ) (e : ℕ) → RowsInUse xs → e ≡ get rowsField (getD xs 0 0) + 1 → Rising (map intervalOf (take (e - 1) (drop 1 xs)))
+lent-rising xs e s h = rw (lent-is xs e h (omega (arith, s .within))) (s .rising)
 
 module _ {f : Interval → ℕ} {t : ℕ} {xs : List ℕ} {e r : ℕ} (g : Found f t xs e r) where
   -- The number found is that of the cell.
   pub found-is : r ≡ frontBelow f t (cellOf xs)
-  found-is = g .place ∙ ap (frontBelow f t) (lent-is xs e (g .lent) (g .stored .long))
+  found-is = g .place ∙ ap (frontBelow f t) (lent-is xs e (g .lent) (omega (arith, g .in-use .within)))
 
   -- The cell has as many intervals as rows were lent.
   pub found-length : length (cellOf xs) + 1 ≡ e
-  found-length = omega (arith, count-is xs (g .stored), g .lent)
+  found-length = omega (arith, in-use-length xs (g .in-use), g .lent)
 
   -- The number found is not past the lent rows.
   pub found-below : r < e
@@ -79,12 +89,12 @@ module _ {f : Interval → ℕ} {t : ℕ} {xs : List ℕ} {e r : ℕ} (g : Found
 
   -- The rows lent end within the cell.
   pub found-within : e ≤ length xs
-  found-within = omega (arith, count-fits xs (g .stored), g .lent)
+  found-within = omega (arith, g .in-use .within, g .lent)
 
 module _ (t : ℕ) {xs : List ℕ} {e r : ℕ} (g : Found arrivalEnd (t + 1) xs e r) where
   -- There is no departure where no row arrives by t.
   pub latest-zero : r ≡ 0 → 0 ≡ orZero (latestDeparture (cellOf xs) t)
-  latest-zero z = ap orZero (sym (latest-none t (cellOf xs) (g .stored .rising) (omega (arith, found-is g))))
+  latest-zero z = ap orZero (sym (latest-none t (cellOf xs) (g .in-use .rising) (omega (arith, found-is g))))
 
   -- Else the latest departure is that of the word at r.
   pub latest-word : (r ≡ 0 → ⊥) → get departureField (getD xs r 0) ≡ orZero (latestDeparture (cellOf xs) t)
@@ -95,7 +105,7 @@ module _ (t : ℕ) {xs : List ℕ} {e r : ℕ} (g : Found arrivalEnd (t + 1) xs 
       go zero p l n = absurd (n refl)
       go (suc k) p l n =
           sym
-          (ap orZero (latest-some t (cellOf xs) k (intervalOf 0) (g .stored .rising) (sym p))
+          (ap orZero (latest-some t (cellOf xs) k (intervalOf 0) (g .in-use .rising) (sym p))
           ∙ ap departureEnd (row-is xs k (omega (arith, found-length g)))
           ∙ ap (λ (i : ℕ). get departureField (getD xs i 0)) (add-one k))
 
@@ -116,7 +126,7 @@ module _ {t : ℕ} {xs : List ℕ} {e r : ℕ} (g : Found departureEnd t xs e r)
   -- The earliest arrival is that row's.
   pub earliest-word : (r + 1 ≡ e → ⊥) → get arrivalField (getD xs (r + 1) 0) ≡ orZero (earliestArrival (cellOf xs) t)
   earliest-word n =
-      sym (ap orZero (earliest-some t (cellOf xs) (intervalOf 0) (g .stored .rising) (first-fits n)) ∙ ap arrivalEnd (first-row n))
+      sym (ap orZero (earliest-some t (cellOf xs) (intervalOf 0) (g .in-use .rising) (first-fits n)) ∙ ap arrivalEnd (first-row n))
 
   -- An interval with departure t does not stand in the cell where no row departs at or after t.
   pub stands-zero : (a : ℕ) → r + 1 ≡ e → stands (interval t a) (cellOf xs) ≡ false
@@ -125,7 +135,7 @@ module _ {t : ℕ} {xs : List ℕ} {e r : ℕ} (g : Found departureEnd t xs e r)
   -- Else it stands there exactly when it is the word at r + 1.
   stands-word : (a : ℕ) → (r + 1 ≡ e → ⊥) → stands (interval t a) (cellOf xs) ≡ sameInterval (interval t a) (intervalOf (getD xs (r + 1) 0))
   stands-word a n =
-      stands-some (interval t a) (cellOf xs) (intervalOf 0) (g .stored .rising) (first-fits n)
+      stands-some (interval t a) (cellOf xs) (intervalOf 0) (g .in-use .rising) (first-fits n)
       ∙ ap (λ (j : Interval). sameInterval (interval t a) j) (first-row n)
 
   -- It is not that word where the departures differ.

@@ -1,11 +1,12 @@
 -- What a search in a rising cell finds: the rows at the front have their end below t, and no other has.
-use mathlib.Core.Path.{_≡_, refl, ap}
-use mathlib.Core.Bool.{Bool, true, false, cond, _||_}
+use mathlib.Core.Path.{_≡_, refl, ap, subst, _∙_}
+use mathlib.Core.Bool.{Bool, false, cond, or-false}
 use mathlib.Core.Option.{Option, none, some}
 use mathlib.Core.List.{List, [], _∷_, map, List·Memᴰ, List·Memᴰ·head, List·Memᴰ·tail}
-use Prim.Native.Nat.{ℕ, zero, suc, _+_, _≤_, _<_, min}
+use Prim.Native.Nat.{ℕ, zero, suc, _+_, _-_, _/_, _≤_, _<_, min}
 use native.Mathlib.Omega.{arith}
-use lib.ListN.{length, getD, length-map, List·getD-map}
+use lib.ListN.{length, getD, drop, length-map, drop-of-length-le, List·getD-map}
+use lib.Seq.{drop-cons}
 use borrow.Author.Tests.{le-leb, lt-leb, ne-eqb}
 use Rattle.journeys.specs.Journey.{Interval}
 use Rattle.journeys.specs.Cell.{Cell, Rising, later, sooner, latestDeparture, earliestArrival}
@@ -121,6 +122,71 @@ module _ (f : Interval → ℕ) (t : ℕ) where
     front-gt-word up u h =
         front-gt up (map intervalOf rows) k (intervalOf 0) u (omega (arith, length-map rows intervalOf)) (rw (List·getD-map intervalOf rows k 0) h)
 
+-- ---- a search by halves
+
+-- A search by halves for the end f and the tick t among the rows has come to lo and hi: its place lies between them.
+pub record Halves (f : Interval → ℕ) (t : ℕ) (rows : List ℕ) (lo hi : ℕ) : Type 0 where
+  pub lower : lo ≤ frontBelow f t (map intervalOf rows)
+  pub upper : frontBelow f t (map intervalOf rows) ≤ hi
+  pub within : hi ≤ length rows
+
+-- The row that it looks at next.
+abbrev pub middle : ℕ → ℕ → ℕ
+middle lo hi = lo + (hi - lo) / 2
+
+module _ (f : Interval → ℕ) (t : ℕ) (rows : List ℕ) where
+  -- It starts with all rows.
+  pub halves-start : Halves f t rows 0 (length rows)
+  halves-start =
+      record { lower = omega arith; upper = omega (arith, front-length f t (map intervalOf rows), length-map rows intervalOf); within = omega arith }
+
+  module _ (lo hi : ℕ) (h : Halves f t rows lo hi) (l : lo < hi) where
+    -- Where the row has its end below t, it goes on behind it.
+    pub halves-behind : Follows f → Rising (map intervalOf rows) → f (intervalOf (getD rows (middle lo hi) 0)) < t → Halves f t rows (middle lo hi + 1) hi
+    halves-behind up u e =
+        let w = h .within in
+        record { lower = omega (arith, front-gt-word f t rows (middle lo hi) (omega arith) up u e); upper = h .upper; within = w }
+
+    -- Where it has not, it goes on in front of it.
+    pub halves-front : t ≤ f (intervalOf (getD rows (middle lo hi) 0)) → Halves f t rows lo (middle lo hi)
+    halves-front e =
+        let w = h .within in
+        record { lower = h .lower; upper = front-le-word f t rows (middle lo hi) (omega arith) e; within = omega arith }
+
+  -- Where nothing is left between them, the place is found.
+  pub halves-end : (lo hi : ℕ) → Halves f t rows lo hi → hi ≤ lo → lo ≡ frontBelow f t (map intervalOf rows)
+  halves-end lo hi h l = omega (arith, h .lower, h .upper)
+
+-- ---- what passes over the rows in front of the place
+
+-- The rows from some index on rise.
+rising-drop : (n : ℕ) (c : Cell) → Rising c → Rising (drop n c)
+rising-drop zero c u = u
+rising-drop (suc n) [] u = u
+rising-drop (suc n) (i ∷ c) u = rising-drop n c (u .1)
+
+module _ {A : Type 0} (f : Interval → ℕ) (t : ℕ) (g : Cell → A) (pass : (i : Interval) (c : Cell) → f i < t → g (i ∷ c) ≡ g c) where
+  -- What passes over every row with its end below t is decided by the rows from the place on.
+  front-passed : (c : Cell) → g c ≡ g (drop (frontBelow f t c) c)
+  unfolding frontBelow
+  front-passed [] = refl
+  front-passed (i ∷ c) = go (front-passed c) (lt-outcome (f i) t)
+    where
+      go : {b : Bool} → g c ≡ g (drop (frontBelow f t c) c) → Outcome (f i < t) (t ≤ f i) b → g (i ∷ c) ≡ g (drop (cond b (suc (frontBelow f t c)) 0) (i ∷ c))
+      go r (holds h) = pass i c h ∙ r
+      go r (fails h) = refl
+
+  -- Where no row is left, it is that of the empty cell.
+  pub front-over : (c : Cell) → length c ≤ frontBelow f t c → g c ≡ g []
+  front-over c l = front-passed c ∙ ap g (drop-of-length-le c l)
+
+  -- Else it is that of the row at the place and rows behind it.
+  pub front-first : (c : Cell) (d : Interval) → Rising c → frontBelow f t c < length c
+      → (r : Cell) × Rising (getD c (frontBelow f t c) d ∷ r) × (g c ≡ g (getD c (frontBelow f t c) d ∷ r))
+  front-first c d u l =
+      let e = drop-cons c (frontBelow f t c) d l in
+      (drop (suc (frontBelow f t c)) c, subst Rising e (rising-drop (frontBelow f t c) c u), front-passed c ∙ ap g e)
+
 -- ---- the latest departure
 
 module _ (t : ℕ) where
@@ -180,23 +246,15 @@ sooner-first b (some e) n = ap some (go (lt-outcome b e))
     go (fails h) = absurd (n h)
 
 module _ (t : ℕ) where
-  -- Where every row departs before t there is no arrival.
-  pub earliest-none : (c : Cell) → length c ≤ frontBelow departureEnd t c → earliestArrival c t ≡ none
-  unfolding frontBelow earliestArrival
-  earliest-none [] l = refl
-  earliest-none (i ∷ c) l = go (earliest-none c) (lt-outcome (i .departure) t) l
-    where
-      go : {b : Bool} → (length c ≤ frontBelow departureEnd t c → earliestArrival c t ≡ none) → Outcome (i .departure < t) (t ≤ i .departure) b
-          → suc (length c) ≤ cond b (suc (frontBelow departureEnd t c)) 0 → earliestArrival (i ∷ c) t ≡ none
-      go r (holds h) m = rw (lt-leb t (i .departure) h) (r (omega arith))
-      go r (fails h) m = absurd (omega arith)
+  -- Rows that depart before t do not count.
+  earliest-pass : (i : Interval) (c : Cell) → i .departure < t → earliestArrival (i ∷ c) t ≡ earliestArrival c t
+  unfolding earliestArrival
+  earliest-pass i c h = rw (lt-leb t (i .departure) h) refl
 
-  -- Else it is that of the first row that departs at or after t.
-  pub earliest-some : (c : Cell) (d : Interval) → Rising c → frontBelow departureEnd t c < length c
-      → earliestArrival c t ≡ some (getD c (frontBelow departureEnd t c) d .arrival)
-  unfolding frontBelow earliestArrival
-  earliest-some [] d u l = absurd (omega arith)
-  earliest-some (i ∷ c) d u l = go (earliest-some c d (u .1)) (lt-outcome (i .departure) t) l
+  -- Of rising rows that depart at or after t the first arrives earliest.
+  earliest-at : (i : Interval) (c : Cell) → Rising (i ∷ c) → t ≤ i .departure → earliestArrival (i ∷ c) t ≡ some (i .arrival)
+  unfolding earliestArrival
+  earliest-at i c u h = rw (le-leb t (i .departure) h) (sooner-first (i .arrival) (earliestArrival c t) none-by)
     where
       none-by : ¬ NotAfter (i .arrival) (earliestArrival c t)
       none-by n =
@@ -204,12 +262,17 @@ module _ (t : ℕ) where
           let r = rising-after i c u (v .1) in
           omega (arith, v .2)
 
-      go : {b : Bool} → (frontBelow departureEnd t c < length c → earliestArrival c t ≡ some (getD c (frontBelow departureEnd t c) d .arrival))
-          → Outcome (i .departure < t) (t ≤ i .departure) b
-          → cond b (suc (frontBelow departureEnd t c)) 0 < suc (length c)
-          → earliestArrival (i ∷ c) t ≡ some (getD (i ∷ c) (cond b (suc (frontBelow departureEnd t c)) 0) d .arrival)
-      go r (holds h) m = rw (lt-leb t (i .departure) h) (r (omega arith))
-      go r (fails h) m = rw (le-leb t (i .departure) h) (sooner-first (i .arrival) (earliestArrival c t) none-by)
+  -- Where every row departs before t there is no arrival.
+  pub earliest-none : (c : Cell) → length c ≤ frontBelow departureEnd t c → earliestArrival c t ≡ none
+  unfolding earliestArrival
+  earliest-none c l = front-over departureEnd t (λ d. earliestArrival d t) earliest-pass c l
+
+  -- Else it is that of the first row that departs at or after t.
+  pub earliest-some : (c : Cell) (d : Interval) → Rising c → frontBelow departureEnd t c < length c
+      → earliestArrival c t ≡ some (getD c (frontBelow departureEnd t c) d .arrival)
+  earliest-some c d u l =
+      let r = front-first departureEnd t (λ d. earliestArrival d t) earliest-pass c d u l in
+      r .2 ∙ earliest-at _ (r .0) (r .1) (front-at departureEnd t c d l)
 
 -- ---- an interval that stands in the cell
 
@@ -222,33 +285,24 @@ module _ (i : Interval) where
       let l : i .departure < j .departure = h j (List·Memᴰ·head refl) in
       rw (ne-eqb (i .departure) (j .departure) (λ e. omega arith)) (stands-after c (λ k m. h k (List·Memᴰ·tail m)))
 
+  -- A row that departs before i is not i.
+  stands-pass : (j : Interval) (c : Cell) → j .departure < i .departure → stands i (j ∷ c) ≡ stands i c
+  unfolding stands
+  stands-pass j c h = rw (ne-eqb (i .departure) (j .departure) (λ e. omega arith)) refl
+
+  -- Of rising rows that depart at or after i only the first can be i.
+  stands-at : (j : Interval) (c : Cell) → Rising (j ∷ c) → i .departure ≤ j .departure → stands i (j ∷ c) ≡ sameInterval i j
+  unfolding stands
+  stands-at j c u h = rw (stands-after c (λ k n. let q = rising-after j c u n in omega arith)) (or-false (sameInterval i j))
+
   -- Where every row departs before i, it does not stand there.
   pub stands-none : (c : Cell) → length c ≤ frontBelow departureEnd (i .departure) c → stands i c ≡ false
-  unfolding frontBelow stands
-  stands-none [] l = refl
-  stands-none (j ∷ c) l = go (stands-none c) (lt-outcome (j .departure) (i .departure)) l
-    where
-      go : {b : Bool} → (length c ≤ frontBelow departureEnd (i .departure) c → stands i c ≡ false)
-          → Outcome (j .departure < i .departure) (i .departure ≤ j .departure) b
-          → suc (length c) ≤ cond b (suc (frontBelow departureEnd (i .departure) c)) 0 → stands i (j ∷ c) ≡ false
-      go r (holds h) m = rw (ne-eqb (i .departure) (j .departure) (λ e. omega arith)) (r (omega arith))
-      go r (fails h) m = absurd (omega arith)
+  unfolding stands
+  stands-none c l = front-over departureEnd (i .departure) (stands i) stands-pass c l
 
   -- Else it stands there exactly when it is the first row that departs at or after it.
   pub stands-some : (c : Cell) (d : Interval) → Rising c → frontBelow departureEnd (i .departure) c < length c
       → stands i c ≡ sameInterval i (getD c (frontBelow departureEnd (i .departure) c) d)
-  unfolding frontBelow stands
-  stands-some [] d u l = absurd (omega arith)
-  stands-some (j ∷ c) d u l = go (stands-some c d (u .1)) (lt-outcome (j .departure) (i .departure)) l
-    where
-      go : {b : Bool} → (frontBelow departureEnd (i .departure) c < length c → stands i c ≡ sameInterval i (getD c (frontBelow departureEnd (i .departure) c) d))
-          → Outcome (j .departure < i .departure) (i .departure ≤ j .departure) b
-          → cond b (suc (frontBelow departureEnd (i .departure) c)) 0 < suc (length c)
-          → stands i (j ∷ c) ≡ sameInterval i (getD (j ∷ c) (cond b (suc (frontBelow departureEnd (i .departure) c)) 0) d)
-      go r (holds h) m = rw (ne-eqb (i .departure) (j .departure) (λ e. omega arith)) (r (omega arith))
-      go r (fails h) m =
-          rw (stands-after c (λ k n. let q = rising-after j c u n in omega arith)) (or-false (sameInterval i j))
-        where
-          or-false : (b : Bool) → (b || false) ≡ b
-          or-false true = refl
-          or-false false = refl
+  stands-some c d u l =
+      let r = front-first departureEnd (i .departure) (stands i) stands-pass c d u l in
+      r .2 ∙ stands-at _ (r .0) (r .1) (front-at departureEnd (i .departure) c d l)

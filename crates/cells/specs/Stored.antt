@@ -4,10 +4,12 @@ use mathlib.Core.Path.{_≡_}
 use mathlib.Core.Bool.{cond}
 use mathlib.Core.Option.{Option, none, some}
 use mathlib.Core.List.{List, [], _∷_, List·Memᴰ}
-use lib.ListN.{length}
+use lib.ListN.{length, getD}
 use lib.Dec.{ltb}
 use Rattle.journeys.specs.Journey.{Interval}
 use Rattle.journeys.specs.Cell.{Cell, Rising}
+use Rattle.words.specs.Layout.{get}
+use Rattle.words.specs.Words.{rowsField}
 use Rattle.rules.specs.Limits.{maxArrival, maxCellWords}
 use Rattle.rules.specs.Layout.{cellWords, cellOf}
 
@@ -20,6 +22,11 @@ pub record Stored (xs : List ℕ) : Type 0 where
   pub departs : (i : Interval) → List·Memᴰ i (cellOf xs) → 1 ≤ i .departure
   pub in-time : (i : Interval) → List·Memᴰ i (cellOf xs) → i .departure < length xs
   pub arrives : (i : Interval) → List·Memᴰ i (cellOf xs) → i .arrival ≤ maxArrival
+
+-- The rows in use end within the words, and they rise; whatever stands behind them.
+pub record RowsInUse (xs : List ℕ) : Type 0 where
+  pub within : get rowsField (getD xs 0 0) < length xs
+  pub rising : Rising (cellOf xs)
 
 -- The two ends of an interval, as functions.
 abbrev pub departureEnd : Interval → ℕ

@@ -13,7 +13,7 @@ ghost use Rattle.rules.specs.Limits.{maxTicks, maxCarry};
 ghost use Rattle.rules.specs.Layout.{cellOf};
 ghost use Rattle.rules.specs.Checks.{cellWellFormed};
 ghost use Rattle.rules.specs.Adding.{stands};
-ghost use Rattle.cells.specs.Stored.{Stored, departureEnd, arrivalEnd, frontBelow, orZero};
+ghost use Rattle.cells.specs.Stored.{RowsInUse, departureEnd, arrivalEnd, frontBelow, orZero};
 
 // The first of the rows that departs at or after t: the number of rows before it.
 pub fn lower_bound_departure(rows: &[u32], t: u32) -> usize
@@ -53,7 +53,7 @@ pub fn upper_bound_arrival(rows: &[u32], t: u32) -> usize
 
 // The index in the cell after its rows in use.
 fn rows_end(cell: &[u32]) -> usize
-    requires { ⌜ Stored (now cell) ⌝ }
+    requires { ⌜ RowsInUse (now cell) ⌝ }
     ensures { λ r. ⌜ (r ≡ get rowsField (getD (now (cell .entry)) 0 0) + 1) × (r ≤ length (now (cell .entry))) ⌝ }
 {
     words::rows_of(cell[0]) as usize + 1
@@ -61,7 +61,7 @@ fn rows_end(cell: &[u32]) -> usize
 
 // The latest departure in the cell with arrival at most t, or 0 where there is none.
 pub fn latest_departure(cell: &[u32], t: u32) -> u32
-    requires { ⌜ Stored (now cell) ⌝ }
+    requires { ⌜ RowsInUse (now cell) ⌝ }
     ensures { λ r. ⌜ r ≡ orZero (latestDeparture (cellOf (now (cell .entry))) t) ⌝ }
 {
     let end = rows_end(cell);
@@ -74,7 +74,7 @@ pub fn latest_departure(cell: &[u32], t: u32) -> u32
 
 // The earliest arrival in the cell with departure at least t, or 0 where there is none.
 pub fn earliest_arrival(cell: &[u32], t: u32) -> u32
-    requires { ⌜ Stored (now cell) ⌝ }
+    requires { ⌜ RowsInUse (now cell) ⌝ }
     ensures { λ r. ⌜ r ≡ orZero (earliestArrival (cellOf (now (cell .entry))) t) ⌝ }
 {
     let end = rows_end(cell);
@@ -87,7 +87,7 @@ pub fn earliest_arrival(cell: &[u32], t: u32) -> u32
 
 // Whether [d, a] stands in the cell.
 pub fn stands(cell: &[u32], d: u32, a: u32) -> bool
-    requires { ⌜ Stored (now cell) ⌝ }
+    requires { ⌜ RowsInUse (now cell) ⌝ }
     ensures { λ r. ⌜ r ≡ stands (interval d a) (cellOf (now (cell .entry))) ⌝ }
 {
     let end = rows_end(cell);

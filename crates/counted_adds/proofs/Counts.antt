@@ -6,10 +6,9 @@ use Prim.Native.Nat.{ℕ, _+_, _≤_, _<_}
 use native.Mathlib.Omega.{arith}
 use borrow.Author.Tests.{ltb-true}
 use Rattle.journeys.specs.Journey.{Contact}
-use Rattle.rules.specs.declared.Refusal.{Refusal}
 use Rattle.rules.specs.declared.Refusal.the-variants.{TallyFull}
 use Rattle.rules.specs.declared.AddAnswer.{AddAnswer}
-use Rattle.rules.specs.declared.AddAnswer.the-variants.{New, Known, Refused}
+use Rattle.rules.specs.declared.AddAnswer.the-variants.{Refused}
 use Rattle.rules.specs.declared.Tally.{Tally}
 use Rattle.rules.specs.Adding.{addAnswer, addLeaves}
 use Rattle.rules.specs.Counting.{tallySum, hasRoom, countedAnswer, countedLeaves, raised, countedTally}
@@ -48,15 +47,6 @@ tallyOf n k r = record { new = n; known = k; refused = r }
 same-tally : {n k r n′ k′ r′ : ℕ} → n ≡ n′ → k ≡ k′ → r ≡ r′ → tallyOf n k r ≡ tallyOf n′ k′ r′
 same-tally e f g = λ i. record { new = e i; known = f i; refused = g i }
 
-module _ (t : Tally) (a : AddAnswer) (n k r : ℕ) where
-  -- The tally that a new contact leaves.
-  pub new-raised : (c : ℕ) → a ≡ New c → n ≡ t .new + 1 → k ≡ t .known → r ≡ t .refused → tallyOf n k r ≡ raised a t
-  new-raised c q e f g = same-tally e f g ∙ sym (ap (λ (b : AddAnswer). raised b t) q)
-
-  -- The tally that a known contact leaves.
-  pub known-raised : (c : ℕ) → a ≡ Known c → n ≡ t .new → k ≡ t .known + 1 → r ≡ t .refused → tallyOf n k r ≡ raised a t
-  known-raised c q e f g = same-tally e f g ∙ sym (ap (λ (b : AddAnswer). raised b t) q)
-
-  -- The tally that a refused call leaves.
-  pub refused-raised : (s : Refusal) → a ≡ Refused s → n ≡ t .new → k ≡ t .known → r ≡ t .refused + 1 → tallyOf n k r ≡ raised a t
-  refused-raised s q e f g = same-tally e f g ∙ sym (ap (λ (b : AddAnswer). raised b t) q)
+-- The tally of the three numbers that an answer leaves is the raised tally.
+pub same-raised : (t : Tally) {a b : AddAnswer} {n k r : ℕ} → a ≡ b → n ≡ raised b t .new → k ≡ raised b t .known → r ≡ raised b t .refused → tallyOf n k r ≡ raised a t
+same-raised t q e f g = same-tally e f g ∙ sym (ap (λ (b : AddAnswer). raised b t) q)

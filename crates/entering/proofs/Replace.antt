@@ -1,36 +1,50 @@
 -- What the moves of rows come to: loops that copy, and a new row in the place of others.
---
 use Prim.Native.Nat.{ℕ, _+_, _-_, _<_, _≤_}
-use mathlib.Core.Path.{_≡_, sym, ap, ap₂, _∙_}
+use mathlib.Core.Path.{_≡_, refl, sym, ap, ap₂, _∙_}
 use mathlib.Core.List.{List, [], _∷_, _++_, append-assoc}
 use native.Mathlib.Omega.{arith}
 use native.Mathlib.Numerals.{add-one}
 use lib.ListN.{length, getD, take, drop, set, length-set, length-append, length-drop, length-replicate, replicate-append-replicate}
 use lib.Seq.{take-take, take-add, take-all, drop-at, drop-drop, drop-append-add, drop-set-lt, take-suc-set, paste-zero, paste-suc, take-paste, drop-paste, length-take-le, append-snoc, getD-drop}
 use Rattle.words.specs.Words.{unusedWord}
-use Rattle.entering.specs.Rows.{over, unused, padded, spliced}
+use Rattle.entering.specs.Rows.{overwriteAt, unused, padded, spliced}
 
 -- ---- loops that copy
 
--- Before the first turn nothing is written.
-pub over-none : (d : List ℕ) (at : ℕ) (s : List ℕ) → d ≡ over d at s 0
-unfolding over
-over-none d at s = paste-zero d at s
+-- A loop that copies the words of s over d, from index at on, has copied j of them.
+pub record Copied (d : List ℕ) (at : ℕ) (s rows : List ℕ) (j : ℕ) : Type 0 where
+  pub long : length rows ≡ length d
+  pub written : rows ≡ overwriteAt d at s j
 
--- A turn stores the next element.
-pub over-step : (d s rows : List ℕ) (at j v : ℕ) → rows ≡ over d at s j → at + j < length d → j < length s → v ≡ getD s j 0
-    → set rows (at + j) v ≡ over d at s (j + 1)
-unfolding over
-over-step d s rows at j v e hd hs ev = rw (e, ev, add-one) (paste-suc d at s j 0 hd hs)
+module _ (d : List ℕ) (at : ℕ) (s : List ℕ) where
+  -- Before the first turn nothing is written.
+  pub copied-start : Copied d at s d 0
+  unfolding overwriteAt
+  copied-start = record { long = refl; written = paste-zero d at s }
 
--- What stands past the copy is as it was.
-pub over-past : (d s rows : List ℕ) (at j k : ℕ) → rows ≡ over d at s j → at ≤ length d → j ≤ length s → at + j ≤ k → getD rows k 0 ≡ getD d k 0
-unfolding over
-over-past d s rows at j k e hd hs le =
-    let i = k - (at + j) in
-    let q : k ≡ at + j + i = omega arith in
-    rw q
-    (sym (getD-drop (at + j) rows i 0) ∙ ap (λ (l : List ℕ). getD l i 0) (ap (drop (at + j)) e ∙ drop-paste d at s j hd hs) ∙ getD-drop (at + j) d i 0)
+  module _ (rows : List ℕ) (j : ℕ) (c : Copied d at s rows j) where
+    -- A turn stores the next word.
+    pub copied-turn : (v : ℕ) → at + j < length d → j < length s → v ≡ getD s j 0 → Copied d at s (set rows (at + j) v) (j + 1)
+    unfolding overwriteAt
+    copied-turn v hd hs e =
+        record { long = length-set rows (at + j) v ∙ c .long; written = rw (c .written, e, add-one) (paste-suc d at s j 0 hd hs) }
+
+    -- What stands past the copy is as it was.
+    pub copied-past : (from : ℕ) → at ≤ from → at ≤ length d → j ≤ length s → getD rows (from + j) 0 ≡ getD (drop from d) j 0
+    unfolding overwriteAt
+    copied-past from l hd hs =
+        let i = from - at in
+        let q : from + j ≡ at + j + i = omega arith in
+        ap (λ (k : ℕ). getD rows k 0) q
+        ∙ sym (getD-drop (at + j) rows i 0)
+        ∙ ap (λ (l : List ℕ). getD l i 0) (ap (drop (at + j)) (c .written) ∙ drop-paste d at s j hd hs)
+        ∙ getD-drop (at + j) d i 0
+        ∙ ap (λ (k : ℕ). getD d k 0) (sym q)
+        ∙ sym (getD-drop from d j 0)
+
+    -- After the last turn all of them are written.
+    pub copied-end : (n : ℕ) → j ≡ n → rows ≡ overwriteAt d at s n
+    copied-end n e = c .written ∙ ap (overwriteAt d at s) e
 
 -- ---- a new row in the place of others
 
@@ -72,8 +86,8 @@ module _ (xs : List ℕ) (n : ℕ) (le : n ≤ length xs) (e : xs ≡ padded (le
 
   module _ (lo w : ℕ) where
     -- One row more, where none goes.
-    pub insert-fits : lo ≤ n → n < length xs → over xs lo (w ∷ drop lo xs) (n - lo + 1) ≡ padded (length xs) (spliced (take n xs) lo lo w)
-    unfolding over padded
+    pub insert-fits : lo ≤ n → n < length xs → overwriteAt xs lo (w ∷ drop lo xs) (n - lo + 1) ≡ padded (length xs) (spliced (take n xs) lo lo w)
+    unfolding overwriteAt padded
     insert-fits h l = ap₂ _++_ (ap₂ _++_ (sym (take-take lo n xs h)) new) rest
       where
         new : take (n - lo + 1) (w ∷ drop lo xs) ≡ w ∷ drop lo (take n xs)
@@ -92,14 +106,14 @@ module _ (xs : List ℕ) (n : ℕ) (le : n ≤ length xs) (e : xs ≡ padded (le
     module _ (hi : ℕ) (h : lo < hi) (l : hi ≤ n) where
       -- The new row over the first that goes, and the rows behind moved down.
       abbrev moved : List ℕ
-      moved = over (set xs lo w) (lo + 1) (drop hi (set xs lo w)) (n - hi)
+      moved = overwriteAt (set xs lo w) (lo + 1) (drop hi (set xs lo w)) (n - hi)
 
       moved-long : n - hi ≤ length (drop hi (set xs lo w))
       moved-long = simp (length-drop, length-set) (omega arith)
 
       -- The rows in use are then the rows with the new one in the place of those that go.
       moved-front : take (lo + 1 + (n - hi)) moved ≡ spliced (take n xs) lo hi w
-      unfolding over
+      unfolding overwriteAt
       moved-front =
           take-paste (set xs lo w) (lo + 1) (drop hi (set xs lo w)) (n - hi) (simp length-set (omega arith)) moved-long
           ∙ ap₂ _++_ front back
@@ -113,7 +127,7 @@ module _ (xs : List ℕ) (n : ℕ) (le : n ≤ length xs) (e : xs ≡ padded (le
 
       -- Behind the freed rows all words are unused as before.
       moved-rest : drop (lo + 1 + (n - hi) + (hi - (lo + 1))) moved ≡ unused (length xs - n)
-      unfolding over
+      unfolding overwriteAt
       moved-rest =
           let p : ℕ = lo + 1 + (n - hi) in
           let q : ℕ = hi - (lo + 1) in
@@ -126,8 +140,8 @@ module _ (xs : List ℕ) (n : ℕ) (le : n ≤ length xs) (e : xs ≡ padded (le
           ∙ tail-unused n (omega arith) le
 
       -- With the freed rows made unused, the rows are those with the new one in the place of those that go.
-      pub close-fits : over moved (lo + 1 + (n - hi)) (unused (hi - (lo + 1))) (hi - (lo + 1)) ≡ padded (length xs) (spliced (take n xs) lo hi w)
-      unfolding over padded
+      pub close-fits : overwriteAt moved (lo + 1 + (n - hi)) (unused (hi - (lo + 1))) (hi - (lo + 1)) ≡ padded (length xs) (spliced (take n xs) lo hi w)
+      unfolding overwriteAt padded
       close-fits =
           ap₂ _++_ (ap₂ _++_ moved-front (take-all (hi - (lo + 1)) (unused (hi - (lo + 1))) (omega (arith, length-replicate {A = ℕ} (hi - (lo + 1)) unusedWord)))) moved-rest
           ∙ append-assoc (spliced (take n xs) lo hi w) (unused (hi - (lo + 1))) (unused (length xs - n))

@@ -1,22 +1,22 @@
 -- Entering an interval that none lies inside: the intervals that contain it stand side by side, and it takes their place.
---
-use Prim.Native.Nat.{ℕ, suc, _+_, _-_, _≤_, _<_}
+use Prim.Native.Nat.{ℕ, suc, _+_, _≤_, _<_}
 use mathlib.Core.Path.{_≡_, refl, sym, ap, _∙_}
 use mathlib.Core.Logic.{_⊎_, inl, inr, ⊎-elim}
-use mathlib.Core.Bool.{Bool, true, false, cond}
+use mathlib.Core.Bool.{Bool, true, false, cond, _||_, and-false}
 use mathlib.Core.List.{List, [], _∷_, map, List·Memᴰ, List·Memᴰ·head, List·Memᴰ·tail}
 use native.Mathlib.Omega.{arith}
 use lib.ListN.{length, getD, length-map, List·getD-map}
 use lib.Dec.{leb}
+use borrow.Author.Tests.{le-leb, lt-leb}
 use Rattle.journeys.specs.Journey.{Interval, interval, Inside}
 use Rattle.journeys.specs.Cell.{Cell, Before, Rising, hasInside, withoutContaining, putInOrder, enter}
 use Rattle.journeys.proofs.Tests.{Outcome, holds, fails, le-outcome, lt-outcome, inside-outcome}
-use Rattle.journeys.proofs.Cover.{Covers, here, there, covers-find, member-covers, departure-path, arrival-path, hasInside-outcome}
+use Rattle.journeys.proofs.Cover.{Covers, here, there, rising-after, departure-path, hasInside-outcome}
 use Rattle.words.specs.Words.{intervalOf}
 use Rattle.cells.specs.Stored.{departureEnd, arrivalEnd, frontBelow}
 use Rattle.entering.specs.Rows.{spliced}
-use Rattle.cells.proofs.Search.{departure-follows, arrival-follows, getD-member, front-length, front-le, front-before, front-at}
-use Rattle.entering.proofs.Front.{lt-or-ge, rising-at, front-behind, past-same, past-other, past-none}
+use Rattle.cells.proofs.Search.{departure-follows, arrival-follows, front-length, front-le, front-at, front-over, front-first}
+use Rattle.entering.proofs.Front.{lt-or-ge, front-behind, past-same, past-other, past-none}
 
 -- ---- the rows that contain an interval
 
@@ -104,59 +104,41 @@ enter-same i c e = rw e refl
 
 -- ---- an interval inside
 
--- Tests agree where neither passes while the other fails.
-same-test : {P Q R S : Type 0} {a b : Bool} → Outcome P Q a → Outcome R S b → (P → S → ⊥) → (Q → R → ⊥) → a ≡ b
-same-test (holds p) (holds r) f g = refl
-same-test (holds p) (fails s) f g = absurd (f p s)
-same-test (fails q) (holds r) f g = absurd (g q r)
-same-test (fails q) (fails s) f g = refl
+-- A row that departs before i does not lie inside it.
+inside-pass : (i j : Interval) (c : Cell) → j .departure < i .departure → hasInside i (j ∷ c) ≡ hasInside i c
+unfolding hasInside
+inside-pass i j c h = rw (lt-leb (i .departure) (j .departure) h) refl
 
--- A row stands somewhere.
-member-at : {j : Interval} {c : Cell} (z : Interval) → List·Memᴰ j c → (k : ℕ) × (k < length c) × (j ≡ getD c k z)
-member-at z (List·Memᴰ·head e) = (0, omega arith, e)
-member-at z (List·Memᴰ·tail m) = let r = member-at z m in (suc (r .0), omega (arith, r .1), r .2)
+-- Rows that arrive after i do not lie inside it.
+inside-after : (i : Interval) (c : Cell) → ((j : Interval) → List·Memᴰ j c → i .arrival < j .arrival) → hasInside i c ≡ false
+unfolding hasInside
+inside-after i [] h = refl
+inside-after i (j ∷ c) h =
+    rw (lt-leb (j .arrival) (i .arrival) (h j (List·Memᴰ·head refl)), and-false (leb (i .departure) (j .departure)))
+    (inside-after i c (λ k m. h k (List·Memᴰ·tail m)))
+
+-- Of rising rows that depart at or after i, one lies inside it exactly when the first does.
+inside-first : (i j : Interval) (c : Cell) → Rising (j ∷ c) → i .departure ≤ j .departure → hasInside i (j ∷ c) ≡ leb (j .arrival) (i .arrival)
+unfolding hasInside
+inside-first i j c u h = rw (le-leb (i .departure) (j .departure) h) (go (le-outcome (j .arrival) (i .arrival)))
+  where
+    go : {b : Bool} → Outcome (j .arrival ≤ i .arrival) (i .arrival < j .arrival) b → (b || hasInside i c) ≡ b
+    go (holds k) = refl
+    go (fails k) = inside-after i c (λ l m. let r = rising-after j c u m in omega arith)
 
 module _ (i : Interval) (c : Cell) (z : Interval) where
-  -- A covered interval has a row inside it, somewhere.
-  covers-at : Covers i c → (k : ℕ) × (k < length c) × (i .departure ≤ getD c k z .departure) × (getD c k z .arrival ≤ i .arrival)
-  covers-at v =
-      let r = covers-find v in
-      let m = member-at z (r .1) in
-      let p = departure-path (m .2) in
-      let q = arrival-path (m .2) in
-      (m .0, m .1, omega (arith, r .2), omega (arith, r .2))
-
   -- Where every row departs before i, none lies inside it.
   pub inside-none : length c ≤ frontBelow departureEnd (i .departure) c → hasInside i c ≡ false
-  inside-none h = same-test (hasInside-outcome i c) none to (λ n s. s)
-    where
-      none : Outcome ⊥ (Unit {0}) false
-      none = fails tt
-
-      to : Covers i c → Unit {0} → ⊥
-      to v s = let r = covers-at v in omega (arith, r .1, r .2, front-before departureEnd (i .departure) c (r .0) z (omega (arith, r .1)))
+  unfolding hasInside
+  inside-none h = front-over departureEnd (i .departure) (hasInside i) (inside-pass i) c h
 
   module _ (u : Rising c) where
     -- Else one lies inside it exactly when the first row that departs at or after it arrives by it.
     pub inside-at : frontBelow departureEnd (i .departure) c < length c
         → hasInside i c ≡ leb (getD c (frontBelow departureEnd (i .departure) c) z .arrival) (i .arrival)
-    inside-at l = same-test (hasInside-outcome i c) (le-outcome (getD c k z .arrival) (i .arrival)) to of
-      where
-        k : ℕ
-        k = frontBelow departureEnd (i .departure) c
-
-        of : ¬ Covers i c → getD c k z .arrival ≤ i .arrival → ⊥
-        of n h = n (member-covers (getD-member c k z l) (front-at departureEnd (i .departure) c z l, h))
-
-        to : Covers i c → i .arrival < getD c k z .arrival → ⊥
-        to v h =
-            let r = covers-at v in
-            ⊎-elim (λ (q : r .0 < k). omega (arith, r .2, front-before departureEnd (i .departure) c (r .0) z q))
-            (λ (q : k ≤ r .0).
-            ⊎-elim (λ (p : k < r .0). omega (arith, r .3, rising-at arrivalEnd arrival-follows c k (r .0) z u p (r .1)))
-            (λ (p : r .0 ≤ k). let e : r .0 ≡ k = omega arith in omega (arith, r .3, ap (λ (m : ℕ). getD c m z .arrival) e))
-            (lt-or-ge k (r .0)))
-            (lt-or-ge (r .0) k)
+    inside-at l =
+        let r = front-first departureEnd (i .departure) (hasInside i) (inside-pass i) c z u l in
+        r .2 ∙ inside-first i _ (r .0) (r .1) (front-at departureEnd (i .departure) c z l)
 
     -- Where none lies inside i, the rows that depart at or after it arrive after it.
     pub arrive-le : hasInside i c ≡ false → frontBelow arrivalEnd (i .arrival) c ≤ frontBelow departureEnd (i .departure) c

@@ -5,8 +5,8 @@ use lib.ListN.{length, take, drop, replicate}
 use Rattle.words.specs.Words.{unusedWord}
 
 -- d with the first n of s written over it from index at on.
-unfoldable pub over : List ℕ → ℕ → List ℕ → ℕ → List ℕ
-over d at s n = take at d ++ take n s ++ drop (at + n) d
+unfoldable pub overwriteAt : List ℕ → ℕ → List ℕ → ℕ → List ℕ
+overwriteAt d at s n = take at d ++ take n s ++ drop (at + n) d
 
 -- n unused words.
 abbrev pub unused : ℕ → List ℕ

@@ -21,12 +21,12 @@ pub fn enters(cell: &mut [u32], d: u32, a: u32) -> bool
 {
     let n = words::rows_of(cell[0]) as usize;
     let end = n + 1;
-    let place = places::find(&cell[1..end], d, a);
-    if place.met {
+    let slot = places::find(&cell[1..end], d, a);
+    if slot.met {
         return false;
     }
-    let lo = place.lo;
-    let hi = place.hi;
+    let lo = slot.lo;
+    let hi = slot.hi;
     let w = words::interval_word(d, a);
     moves::replace(&mut cell[1..], lo, hi, n, w);
     let rows = lo + 1 + (n - hi);

@@ -3,12 +3,12 @@ ghost use mathlib.Core.Path.{_≡_};
 ghost use Prim.Native.Nat.{_+_, _-_, _<_, _≤_};
 ghost use mathlib.Core.List.{_∷_};
 ghost use lib.ListN.{length, take, drop};
-ghost use Rattle.entering.specs.Rows.{over, unused, padded, spliced};
+ghost use Rattle.entering.specs.Rows.{overwriteAt, unused, padded, spliced};
 
 // Puts w at `at` and moves the n rows from there up by one.
 fn insert_at(rows: &mut [u32], at: usize, n: usize, w: u32)
     requires { ⌜ at + n < length (now rows) ⌝ }
-    ensures { λ _. ⌜ now (rows .exit) ≡ over (now (rows .entry)) at (w ∷ drop at (now (rows .entry))) (n + 1) ⌝ }
+    ensures { λ _. ⌜ now (rows .exit) ≡ overwriteAt (now (rows .entry)) at (w ∷ drop at (now (rows .entry))) (n + 1) ⌝ }
 {
     let mut carried = w;
     for j in 0..n {
@@ -22,7 +22,7 @@ fn insert_at(rows: &mut [u32], at: usize, n: usize, w: u32)
 // Moves the n rows from `from` down to `to`.
 fn move_down(rows: &mut [u32], to: usize, from: usize, n: usize)
     requires { ⌜ (to ≤ from) × (from + n ≤ length (now rows)) ⌝ }
-    ensures { λ _. ⌜ now (rows .exit) ≡ over (now (rows .entry)) to (drop from (now (rows .entry))) n ⌝ }
+    ensures { λ _. ⌜ now (rows .exit) ≡ overwriteAt (now (rows .entry)) to (drop from (now (rows .entry))) n ⌝ }
 {
     for j in 0..n {
         rows[to + j] = rows[from + j];
@@ -32,7 +32,7 @@ fn move_down(rows: &mut [u32], to: usize, from: usize, n: usize)
 // Makes the n rows from `at` unused.
 fn clear(rows: &mut [u32], at: usize, n: usize)
     requires { ⌜ at + n ≤ length (now rows) ⌝ }
-    ensures { λ _. ⌜ now (rows .exit) ≡ over (now (rows .entry)) at (unused n) n ⌝ }
+    ensures { λ _. ⌜ now (rows .exit) ≡ overwriteAt (now (rows .entry)) at (unused n) n ⌝ }
 {
     let blank = words::unused_word();
     for j in 0..n {

@@ -52,21 +52,21 @@ fn first_past(rows: &[u32], i: usize, d: u32) -> usize
 }
 
 // Where an interval goes: in the place of the rows from lo to hi - 1; or nowhere, since a row lies inside it.
-pub(crate) struct Place {
+pub(crate) struct Slot {
     pub met: bool,
     pub lo: usize,
     pub hi: usize,
 }
 
 // Where [d, a] goes among the rows.
-pub(crate) fn find(rows: &[u32], d: u32, a: u32) -> Place
+pub(crate) fn find(rows: &[u32], d: u32, a: u32) -> Slot
     requires { ⌜ Rising (map intervalOf (now rows)) ⌝ }
-    ensures { λ p. ⌜ p .met ≡ hasInside (interval d a) (map intervalOf (now (rows .entry))) ⌝ }
-    ensures { λ p. ⌜ (p .met ≡ false → (p .lo ≡ frontBelow arrivalEnd a (map intervalOf (now (rows .entry)))) × (p .hi ≡ frontBelow departureEnd (d + 1) (map intervalOf (now (rows .entry))))) ⌝ }
+    ensures { λ s. ⌜ s .met ≡ hasInside (interval d a) (map intervalOf (now (rows .entry))) ⌝ }
+    ensures { λ s. ⌜ (s .met ≡ false → (s .lo ≡ frontBelow arrivalEnd a (map intervalOf (now (rows .entry)))) × (s .hi ≡ frontBelow departureEnd (d + 1) (map intervalOf (now (rows .entry))))) ⌝ }
 {
     let i = cells::lower_bound_departure(rows, d);
     if has_inside(rows, i, d, a) {
-        return Place {
+        return Slot {
             met: true,
             lo: 0,
             hi: 0,
@@ -74,5 +74,5 @@ pub(crate) fn find(rows: &[u32], d: u32, a: u32) -> Place
     }
     let lo = first_arriving(rows, i, a);
     let hi = first_past(rows, i, d);
-    Place { met: false, lo, hi }
+    Slot { met: false, lo, hi }
 }

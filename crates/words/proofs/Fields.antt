@@ -1,6 +1,5 @@
 -- Laws of the fields of a word, over any layout: a word's values are read back as they were packed, and a word of the layout is packed again as it was.
 -- A word is of the layout exactly when its top is the layout's kind and every bit that no field names is zero.
---
 use mathlib.Core.Path.{_≡_, refl, sym, ap, ap₂, _∙_, subst}
 use mathlib.Core.Logic.{_↔_, ⊎-elim}
 use mathlib.Core.Bool.{true}

@@ -1,16 +1,19 @@
 -- The six words of document 01, packed and read again: each law is an instance of the laws of `Fields`.
---
 use mathlib.Core.Path.{_≡_, ap, _∙_}
 use mathlib.Core.Bool.{true}
 use mathlib.Core.List.{List, [], _∷_}
-use Prim.Native.Nat.{ℕ, _+_, _-_, _^_, _≤_, _<_}
+use Prim.Native.Nat.{ℕ, _+_, _-_, _≤_, _<_}
 use native.Mathlib.Nat.{add-sub-cancel, sub-add-cancel}
 use native.Mathlib.Omega.{arith}
 use lib.ListN.{getD}
 use Rattle.journeys.specs.Journey.{Contact, contact, Interval, interval}
-use Rattle.words.specs.Layout.{get, pack, unpack, isOf, capacity}
+use Rattle.words.specs.Layout.{Field, Layout, get, pack, unpack, isOf, capacity}
 use Rattle.words.specs.Words.{unusedLayout, unusedWord, departureField, arrivalField, intervalLayout, intervalWord, intervalOf, fromField, toField, tickField, contactLayout, contactWord, contactOf, animalsField, carryField, ticksField, openingLayout, openingWord, animalsOf, ticksOf, carryOf, rowsField, countLayout, countWord, loggedField, endLayout, endWord}
 use Rattle.words.proofs.Fields.{Descending, Fitting, get-bound, unpack-pack, isOf-pack, pack-unpack}
+
+-- A number that is kept less 1 fits its field with 1 more, and is at least 1.
+one-more-bound : (f : Field) (w : ℕ) → (1 ≤ get f w + 1) × (get f w + 1 ≤ capacity f)
+one-more-bound f w = omega (arith, get-bound f w)
 
 -- ---- unused
 
@@ -20,7 +23,7 @@ unusedWord-is = isOf-pack unusedLayout [] tt tt
 
 -- No other word is unused.
 pub unusedWord-only : (w : ℕ) → isOf unusedLayout w ≡ true → unusedWord ≡ w
-unusedWord-only w e = pack-unpack unusedLayout w e
+unusedWord-only = pack-unpack unusedLayout
 
 -- ---- interval
 
@@ -35,8 +38,7 @@ intervalValues i = i .departure ∷ i .arrival ∷ []
 module _ (i : Interval) (d : i .departure < capacity departureField) (a : i .arrival < capacity arrivalField) where
   -- An interval word says its interval.
   pub intervalOf-word : intervalOf (intervalWord i) ≡ i
-  intervalOf-word =
-      ap (λ (vs : List ℕ). interval (getD vs 0 0) (getD vs 1 0)) (unpack-pack intervalLayout (intervalValues i) interval-descends (d, (a, tt)))
+  intervalOf-word = ap (λ (vs : List ℕ). interval (getD vs 0 0) (getD vs 1 0)) (unpack-pack intervalLayout (intervalValues i) interval-descends (d, (a, tt)))
 
   -- An interval word is one.
   pub intervalWord-is : isOf intervalLayout (intervalWord i) ≡ true
@@ -44,11 +46,7 @@ module _ (i : Interval) (d : i .departure < capacity departureField) (a : i .arr
 
 -- An interval word is the word of the interval that it says.
 pub intervalWord-of : (w : ℕ) → isOf intervalLayout w ≡ true → intervalWord (intervalOf w) ≡ w
-intervalWord-of w e = pack-unpack intervalLayout w e
-
--- The departure and the arrival that a word says fit their fields.
-pub intervalOf-bound : (w : ℕ) → (intervalOf w .departure < capacity departureField) × (intervalOf w .arrival < capacity arrivalField)
-intervalOf-bound w = (get-bound departureField w, get-bound arrivalField w)
+intervalWord-of = pack-unpack intervalLayout
 
 -- ---- contact
 
@@ -84,9 +82,7 @@ contactWord-of w e =
 
 -- The animals and the tick that a word says fit their fields.
 pub contactOf-bound : (w : ℕ) → (contactOf w .from < capacity fromField) × (contactOf w .to < capacity toField) × (1 ≤ contactOf w .tick) × (contactOf w .tick ≤ capacity tickField)
-contactOf-bound w =
-    let l : get tickField w < capacity tickField = get-bound tickField w in
-    (get-bound fromField w, get-bound toField w, omega arith, omega arith)
+contactOf-bound w = let t = one-more-bound tickField w in (get-bound fromField w, get-bound toField w, t .0, t .1)
 
 -- ---- opening
 
@@ -130,17 +126,30 @@ openingWord-of w e =
 
 -- The number of animals that a word says fits its field and is at least 1.
 pub animalsOf-bound : (w : ℕ) → (1 ≤ animalsOf w) × (animalsOf w ≤ capacity animalsField)
-animalsOf-bound w = let l : get animalsField w < capacity animalsField = get-bound animalsField w in (omega arith, omega arith)
+animalsOf-bound w = one-more-bound animalsField w
 
 -- The number of ticks that a word says fits its field and is at least 1.
 pub ticksOf-bound : (w : ℕ) → (1 ≤ ticksOf w) × (ticksOf w ≤ capacity ticksField)
-ticksOf-bound w = let l : get ticksField w < capacity ticksField = get-bound ticksField w in (omega arith, omega arith)
+ticksOf-bound w = one-more-bound ticksField w
 
 -- The carry time that a word says fits its field and is at least 1.
 pub carryOf-bound : (w : ℕ) → (1 ≤ carryOf w) × (carryOf w ≤ capacity carryField)
-carryOf-bound w = let l : get carryField w < capacity carryField = get-bound carryField w in (omega arith, omega arith)
+carryOf-bound w = one-more-bound carryField w
 
--- ---- count
+-- ---- count, and end of log: words with one field
+
+module _ (kind : ℕ) (f : Field) (d : Descending 30 (f ∷ [])) (v : ℕ) (l : v < capacity f) where
+  -- The layout of such a word.
+  abbrev single : Layout
+  single = record { kind = kind; fields = f ∷ [] }
+
+  -- The word says the value.
+  single-read : get f (pack single (v ∷ [])) ≡ v
+  single-read = ap (λ (vs : List ℕ). getD vs 0 0) (unpack-pack single (v ∷ []) d (l, tt))
+
+  -- The word is of the layout.
+  single-is : isOf single (pack single (v ∷ [])) ≡ true
+  single-is = isOf-pack single (v ∷ []) d (l, tt)
 
 -- The field of a count word lies below bit 30.
 pub count-descends : Descending 30 (countLayout .fields)
@@ -148,21 +157,15 @@ count-descends = (omega arith, tt)
 
 -- A count word says its number of rows.
 pub rowsOf-word : (k : ℕ) → k < capacity rowsField → get rowsField (countWord k) ≡ k
-rowsOf-word k l = ap (λ (vs : List ℕ). getD vs 0 0) (unpack-pack countLayout (k ∷ []) count-descends (l, tt))
+rowsOf-word = single-read 3 rowsField count-descends
 
 -- A count word is one.
 pub countWord-is : (k : ℕ) → k < capacity rowsField → isOf countLayout (countWord k) ≡ true
-countWord-is k l = isOf-pack countLayout (k ∷ []) count-descends (l, tt)
+countWord-is = single-is 3 rowsField count-descends
 
 -- A count word is the word of the number of rows that it says.
 pub countWord-of : (w : ℕ) → isOf countLayout w ≡ true → countWord (get rowsField w) ≡ w
-countWord-of w e = pack-unpack countLayout w e
-
--- The number of rows that a word says fits its field.
-pub rowsOf-bound : (w : ℕ) → get rowsField w < capacity rowsField
-rowsOf-bound w = get-bound rowsField w
-
--- ---- end of log
+countWord-of = pack-unpack countLayout
 
 -- The field of an end word lies below bit 30.
 pub end-descends : Descending 30 (endLayout .fields)
@@ -170,16 +173,16 @@ end-descends = (omega arith, tt)
 
 -- An end word says its number of contacts.
 pub loggedOf-word : (k : ℕ) → k < capacity loggedField → get loggedField (endWord k) ≡ k
-loggedOf-word k l = ap (λ (vs : List ℕ). getD vs 0 0) (unpack-pack endLayout (k ∷ []) end-descends (l, tt))
+loggedOf-word = single-read 3 loggedField end-descends
 
 -- An end word is one.
 pub endWord-is : (k : ℕ) → k < capacity loggedField → isOf endLayout (endWord k) ≡ true
-endWord-is k l = isOf-pack endLayout (k ∷ []) end-descends (l, tt)
+endWord-is = single-is 3 loggedField end-descends
 
 -- An end word is the word of the number of contacts that it says.
 pub endWord-of : (w : ℕ) → isOf endLayout w ≡ true → endWord (get loggedField w) ≡ w
-endWord-of w e = pack-unpack endLayout w e
+endWord-of = pack-unpack endLayout
 
 -- The number of contacts that a word says fits its field.
 pub loggedOf-bound : (w : ℕ) → get loggedField w < capacity loggedField
-loggedOf-bound w = get-bound loggedField w
+loggedOf-bound = get-bound loggedField

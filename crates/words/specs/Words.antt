@@ -1,5 +1,5 @@
 -- The six words of document 01 ("Words of the table"): a layout for each, and the word of given values.
-use mathlib.Core.List.{List, [], _∷_}
+use mathlib.Core.List.{[], _∷_}
 use Prim.Native.Nat.{ℕ, _+_, _-_}
 use Rattle.journeys.specs.Journey.{Contact, contact, Interval, interval}
 use Rattle.words.specs.Layout.{Field, bits, Layout, get, pack}

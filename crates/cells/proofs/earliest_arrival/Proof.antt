@@ -1,5 +1,4 @@
 -- `cells::earliest_arrival` meets its contract: the row at the place that the search finds is the first that departs at or after t.
---
 use native.Mathlib.Omega.{arith}
 use borrow.Author.Needs.{needs}
 use mathlib.Core.Path.{_∙_}
@@ -8,24 +7,20 @@ use Rattle.cells.proofs.Lent.{Found, lent-rising, found-below, found-wi
 use Rattle.cells.proofs.earliest_arrival.Statement.{statement}
 use Rattle.cells.proofs.earliest_arrival.Tie as tie
 
-lower-bound-departure-requires : tie.Need-lower-bound-departure-requires
-lower-bound-departure-requires c κs =
-    let s = c .before .before .before in
-    lent-rising (s .args .cell .now) (c .before .rows-end .result) (s .pre) (c .before .rows-end .ensures .0)
+-- Where the function was called.
+abbrev entry : tie.After-lower-bound-departure → tie.Start
+entry c = c .before .before .before .before
 
 -- What the search found.
 found : (c : tie.After-lower-bound-departure)
-    → Found departureEnd (c .before .before .before .before .args .t) (c .before .before .before .before .args .cell .now)
-    (c .before .before .rows-end .result) (c .lower-bound-departure .result)
-found c =
-    record {
-      stored = c .before .before .before .before .pre;
-      lent = c .before .before .rows-end .ensures .0;
-      place = c .lower-bound-departure .ensures;
-    }
+    → let a = entry c .args in Found departureEnd (a .t) (a .cell .now) (c .before .before .rows-end .result) (c .lower-bound-departure .result)
+found c = record { in-use = entry c .pre; lent = c .before .before .rows-end .ensures .0; place = c .lower-bound-departure .ensures }
+
+lower-bound-departure-requires : tie.Need-lower-bound-departure-requires
+lower-bound-departure-requires c κs = let r = c .before in lent-rising _ _ (r .before .before .pre) (r .rows-end .ensures .0)
 
 add-first : tie.Need-add-first
-add-first c = let g = found c in omega (arith, found-below g)
+add-first c = omega (arith, found-below (found c))
 
 returns : tie.Need-returns
 returns c = earliest-zero (found (c .before)) (omega arith)

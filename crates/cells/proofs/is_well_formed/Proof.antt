@@ -11,43 +11,40 @@ use Rattle.cells.proofs.Checks.{stopped, passed, cell-kind, cell-many, 
 use Rattle.cells.proofs.is_well_formed.Statement.{statement}
 use Rattle.cells.proofs.is_well_formed.Tie as tie
 
-returns : tie.Need-returns
-returns c =
-    let k = c .before in
-    let s = k .before .before .before in
-    sym (cell-kind (s .args .ticks) (s .args .carry) (s .args .most) (s .args .cell .now) (omega arith) (stopped (k .is-count .ensures) (c .if1 .taken)))
+-- Where the function was called, from its first test.
+abbrev entry : tie.After-is-count → tie.Start
+entry c = c .before .before .before
+
+-- Where the count was read, from the test of the rows.
+abbrev counted : tie.After-rows-well-formed → tie.After-rows-of
+counted c = c .before .before .before
 
 -- The first word is a count.
-kind : (c : tie.Else1) → isOf countLayout (getD (c .before .before .before .before .args .cell .now) 0 0) ≡ true
+kind : (c : tie.Else1) → isOf countLayout (getD (entry (c .before) .args .cell .now) 0 0) ≡ true
 kind c = passed (c .before .is-count .ensures) (c .if1 .left)
 
+returns : tie.Need-returns
+returns c = sym (cell-kind _ _ _ _ (omega arith) (stopped (c .before .is-count .ensures) (c .if1 .taken)))
+
 returns-2 : tie.Need-returns-2
-returns-2 c =
-    let o = c .before .before in
-    let s = o .before .before .before .before in
-    sym (cell-many (s .args .ticks) (s .args .carry) (s .args .most) (s .args .cell .now) (omega arith) (kind o) (omega arith))
+returns-2 c = sym (cell-many _ _ _ _ (omega arith) (kind (c .before .before)) (omega arith))
 
 returns-3 : tie.Need-returns-3
 returns-3 c =
     let f = c .before in
-    let n = f .before .before .before in
-    let o = n .before in
-    let s = o .before .before .before .before in
+    let n = counted f in
     sym
-    (cell-rows (s .args .ticks) (s .args .carry) (s .args .most) (s .args .cell .now) (omega arith) (kind o)
-    (n .rows-of .result + 1) (omega arith) (omega arith) (stopped (f .rows-well-formed .ensures) (c .if3 .taken)))
+    (cell-rows _ _ _ _ (omega arith) (kind (n .before)) (n .rows-of .result + 1) (omega arith) (omega arith)
+    (stopped (f .rows-well-formed .ensures) (c .if3 .taken)))
 
 returns-4 : tie.Need-returns-4
 returns-4 c =
     let e = c .before .before in
-    let f = e .before in
-    let n = f .before .before .before in
-    let o = n .before in
-    let s = o .before .before .before .before in
+    let n = counted (e .before) in
     c .all-unused .ensures
     ∙ sym
-    (cell-rest (s .args .ticks) (s .args .carry) (s .args .most) (s .args .cell .now) (omega arith) (kind o)
-    (n .rows-of .result + 1) (omega arith) (omega arith) (passed (f .rows-well-formed .ensures) (e .if3 .left)))
+    (cell-rest _ _ _ _ (omega arith) (kind (n .before)) (n .rows-of .result + 1) (omega arith) (omega arith)
+    (passed (e .before .rows-well-formed .ensures) (e .if3 .left)))
 
 pub is-well-formed-spec : {M : Type 1} → statement M
 is-well-formed-spec =

@@ -1,29 +1,24 @@
 -- `cells::latest_departure` meets its contract: the row in front of the place that the search finds is the last that arrives by t.
---
 use native.Mathlib.Omega.{arith}
 use borrow.Author.Needs.{needs}
-use Prim.Native.Nat.{_+_}
 use mathlib.Core.Path.{_∙_}
+use Prim.Native.Nat.{_+_}
 use Rattle.cells.specs.Stored.{arrivalEnd}
 use Rattle.cells.proofs.Lent.{Found, lent-rising, found-below, found-within, latest-zero, latest-word}
 use Rattle.cells.proofs.latest_departure.Statement.{statement}
 use Rattle.cells.proofs.latest_departure.Tie as tie
 
-upper-bound-arrival-requires : tie.Need-upper-bound-arrival-requires
-upper-bound-arrival-requires c κs =
-    let s = c .before .before .before in
-    lent-rising (s .args .cell .now) (c .before .rows-end .result) (s .pre) (c .before .rows-end .ensures .0)
+-- Where the function was called.
+abbrev entry : tie.After-upper-bound-arrival → tie.Start
+entry c = c .before .before .before .before
 
 -- What the search found.
 found : (c : tie.After-upper-bound-arrival)
-    → Found arrivalEnd (c .before .before .before .before .args .t + 1) (c .before .before .before .before .args .cell .now)
-    (c .before .before .rows-end .result) (c .upper-bound-arrival .result)
-found c =
-    record {
-      stored = c .before .before .before .before .pre;
-      lent = c .before .before .rows-end .ensures .0;
-      place = c .upper-bound-arrival .ensures;
-    }
+    → let a = entry c .args in Found arrivalEnd (a .t + 1) (a .cell .now) (c .before .before .rows-end .result) (c .upper-bound-arrival .result)
+found c = record { in-use = entry c .pre; lent = c .before .before .rows-end .ensures .0; place = c .upper-bound-arrival .ensures }
+
+upper-bound-arrival-requires : tie.Need-upper-bound-arrival-requires
+upper-bound-arrival-requires c κs = let r = c .before in lent-rising _ _ (r .before .before .pre) (r .rows-end .ensures .0)
 
 returns : tie.Need-returns
 returns c = latest-zero _ (found (c .before)) (omega arith)

@@ -7,24 +7,24 @@ use Rattle.cells.proofs.Lent.{Found, lent-rising, found-below, found-wi
 use Rattle.cells.proofs.stands.Statement.{statement}
 use Rattle.cells.proofs.stands.Tie as tie
 
-lower-bound-departure-requires : tie.Need-lower-bound-departure-requires
-lower-bound-departure-requires c κs =
-    let s = c .before .before .before in
-    lent-rising (s .args .cell .now) (c .before .rows-end .result) (s .pre) (c .before .rows-end .ensures .0)
+-- Where the function was called.
+abbrev entry : tie.After-lower-bound-departure → tie.Start
+entry c = c .before .before .before .before
 
 -- What the search found.
 found : (c : tie.After-lower-bound-departure)
-    → Found departureEnd (c .before .before .before .before .args .d) (c .before .before .before .before .args .cell .now)
-    (c .before .before .rows-end .result) (c .lower-bound-departure .result)
-found c =
-    record {
-      stored = c .before .before .before .before .pre;
-      lent = c .before .before .rows-end .ensures .0;
-      place = c .lower-bound-departure .ensures;
-    }
+    → let a = entry c .args in Found departureEnd (a .d) (a .cell .now) (c .before .before .rows-end .result) (c .lower-bound-departure .result)
+found c = record { in-use = entry c .pre; lent = c .before .before .rows-end .ensures .0; place = c .lower-bound-departure .ensures }
+
+lower-bound-departure-requires : tie.Need-lower-bound-departure-requires
+lower-bound-departure-requires c κs = let r = c .before in lent-rising _ _ (r .before .before .pre) (r .rows-end .ensures .0)
+
+-- The row that the search found was read.
+abbrev row-found : tie.After-departure-of → tie.After-lower-bound-departure
+row-found c = c .before .before .before
 
 add-at : tie.Need-add-at
-add-at c = let g = found c in omega (arith, found-below g)
+add-at c = omega (arith, found-below (found c))
 
 returns : tie.Need-returns
 returns c = sym (stands-zero (found (c .before)) _ (omega arith))
@@ -36,19 +36,13 @@ shared-slice-read-w : tie.Need-shared-slice-read-w
 shared-slice-read-w c = let g = found (c .before .before) in omega (arith, found-below g, found-within g)
 
 returns-2 : tie.Need-returns-2
-returns-2 c =
-    let f = c .before .before .before in
-    sym (stands-other (found (f .before)) _ (λ z. omega arith) (λ z. omega arith))
+returns-2 c = sym (stands-other (found (row-found (c .before))) _ (λ z. omega arith) (λ z. omega arith))
 
 returns-3 : tie.Need-returns-3
-returns-3 c =
-    let f = c .before .before .before .before .before in
-    sym (stands-apart (found (f .before)) _ (λ z. omega arith) (omega arith) (λ z. omega arith))
+returns-3 c = sym (stands-apart (found (row-found (c .before .before .before))) _ (λ z. omega arith) (omega arith) (λ z. omega arith))
 
 returns-4 : tie.Need-returns-4
-returns-4 c =
-    let f = c .before .before .before .before .before in
-    sym (stands-here (found (f .before)) _ (λ z. omega arith) (omega arith) (omega arith))
+returns-4 c = sym (stands-here (found (row-found (c .before .before .before))) _ (λ z. omega arith) (omega arith) (omega arith))
 
 pub stands-spec : {M : Type 1} → statement M
 stands-spec =

@@ -1,8 +1,7 @@
 -- `enters` meets its contract: where the interval goes is one record of facts, from which every later need follows.
---
 use Prim.Native.Nat.{ℕ, _+_, _-_}
 use mathlib.Core.Path.{_≡_, sym, ap, _∙_, subst}
-use mathlib.Core.Bool.{true, not}
+use mathlib.Core.Bool.{not}
 use mathlib.Core.List.{List, map}
 use native.Mathlib.Omega.{arith}
 use borrow.Author.Needs.{needs}
@@ -17,81 +16,89 @@ use Rattle.entering.proofs.Entered.{same, Goes, goes, ready, entered}
 use Rattle.entering.proofs.enters.Statement.{statement}
 use Rattle.entering.proofs.enters.Tie as tie
 
+-- Where the function was called, from the reading of the count.
+abbrev entry : tie.After-rows-of → tie.Start
+entry n = n .before .before .before
+
+-- Where the count was read, from the search.
+abbrev counted : tie.After-find → tie.After-rows-of
+counted f = f .before .before .before
+
+-- Where no row was found to lie inside, from the replacing.
+abbrev goes-in : tie.After-replace → tie.Else1
+goes-in r = r .before .before .before
+
 -- The cell as it came.
 abbrev cell-of : tie.After-rows-of → List ℕ
-cell-of c = c .before .before .before .args .cell .now
+cell-of n = entry n .args .cell .now
 
 -- The rows that are searched say the cell.
-part : (c : tie.After-rows-of) → map intervalOf (take (c .rows-of .result + 1 - 1) (drop 1 (cell-of c))) ≡ cellOf (cell-of c)
-part c = lent-is (cell-of c) (c .rows-of .result + 1) (ap (λ m. m + 1) (c .rows-of .ensures)) (c .before .before .before .pre .0 .long)
+part : (n : tie.After-rows-of) → map intervalOf (take (n .rows-of .result + 1 - 1) (drop 1 (cell-of n))) ≡ cellOf (cell-of n)
+part n = lent-is (cell-of n) (n .rows-of .result + 1) (ap (λ m. m + 1) (n .rows-of .ensures)) (entry n .pre .0 .long)
+
+-- What the search found of rows inside [d, a] it found of the cell.
+inside-is : (f : tie.After-find)
+    → let n = counted f in hasInside (interval (entry n .args .d) (entry n .args .a)) (cellOf (cell-of n)) ≡ f .find .result .met
+inside-is f = ap (hasInside _) (sym (part (counted f))) ∙ sym (f .find .ensures .0)
 
 -- Where the interval goes, from what the search found.
-abbrev Place : tie.After-find → Type 0
-Place f =
-    let n = f .before .before .before in
-    let s = n .before .before .before in
-    Goes (cell-of n) (s .args .d) (s .args .a) (n .rows-of .result) (f .find .result .lo) (f .find .result .hi)
-
-place : (c : tie.Else1) → Place (c .before)
-place c =
+here : (c : tie.Else1)
+    → let f = c .before in
+    let n = counted f in
+    Goes (cell-of n) (entry n .args .d) (entry n .args .a) (n .rows-of .result) (f .find .result .lo) (f .find .result .hi)
+here c =
     let f = c .before in
-    let n = f .before .before .before in
-    let s = n .before .before .before in
+    let n = counted f in
+    let s = entry n in
     let g = f .find .ensures .1 (c .if1 .left) in
     goes (cell-of n) (s .args .d) (s .args .a) (n .rows-of .result) (f .find .result .lo) (f .find .result .hi) (s .pre .0) (n .rows-of .ensures)
-    (s .pre .1 .0) (s .pre .1 .1)
-    (ap (hasInside _) (sym (part n)) ∙ sym (f .find .ensures .0) ∙ c .if1 .left)
+    (s .pre .1 .0) (s .pre .1 .1) (inside-is f ∙ c .if1 .left)
     (g .0 ∙ ap (frontBelow arrivalEnd _) (part n))
     (g .1 ∙ ap (frontBelow departureEnd _) (part n))
 
 part-find-end : tie.Need-part-find-end
-part-find-end c = let n = c .before in omega (arith, n .rows-of .ensures, count-fits (cell-of n) (n .before .before .before .pre .0))
+part-find-end c = let n = c .before in omega (arith, n .rows-of .ensures, count-fits (cell-of n) (entry n .pre .0))
 
 find-requires : tie.Need-find-requires
-find-requires c κs =
-    let n = c .before .before in
-    subst Rising (sym (part n)) (n .before .before .before .pre .0 .rising)
+find-requires c κs = let n = c .before .before in subst Rising (sym (part n)) (entry n .pre .0 .rising)
 
 returns : tie.Need-returns
 returns c =
     let f = c .before in
-    let n = f .before .before .before in
-    let s = n .before .before .before in
-    let e : hasInside (interval (s .args .d) (s .args .a)) (cellOf (cell-of n)) ≡ true = ap (hasInside _) (sym (part n)) ∙ sym (f .find .ensures .0) ∙ c .if1 .taken in
-    (ap not (sym e), same (cell-of n) (s .pre .0) (s .args .d) (s .args .a) e)
+    let n = counted f in
+    let e = inside-is f ∙ c .if1 .taken in
+    (ap not (sym e), same (cell-of n) (entry n .pre .0) _ _ e)
 
 replace-requires : tie.Need-replace-requires
 replace-requires c κs =
     let l = c .before .before in
-    let n = l .before .before .before .before in
-    let s = n .before .before .before in
-    ready (cell-of n) (s .args .d) (s .args .a) (n .rows-of .result) (l .before .find .result .lo) (l .before .find .result .hi) (s .pre .0) (n .rows-of .ensures) (place l)
+    let n = counted (l .before) in
+    ready (cell-of n) _ _ _ _ _ (entry n .pre .0) (n .rows-of .ensures) (here l)
 
 add-rows : tie.Need-add-rows
-add-rows c = let g = place (c .before .before .before .before .before) in omega arith
+add-rows c = let g = here (goes-in (c .before .before)) in omega arith
 
 sub-rows : tie.Need-sub-rows
-sub-rows c = let g = place (c .before .before .before .before .before) in omega arith
+sub-rows c = let g = here (goes-in (c .before .before)) in omega arith
 
 add-rows-2 : tie.Need-add-rows-2
-add-rows-2 c = let g = place (c .before .before .before .before .before) in omega arith
+add-rows-2 c = let g = here (goes-in (c .before .before)) in omega arith
 
 cast-count-word : tie.Need-cast-count-word
-cast-count-word c = let g = place (c .before .before .before .before .before) in omega arith
+cast-count-word c = let g = here (goes-in (c .before .before)) in omega arith
 
 count-word-requires : tie.Need-count-word-requires
-count-word-requires c κs = let g = place (c .before .before .before .before .before) in omega arith
+count-word-requires c κs = let g = here (goes-in (c .before .before)) in omega arith
 
 returns-2 : tie.Need-returns-2
 returns-2 c =
     let r = c .before .before .before in
-    let l = r .before .before .before in
-    let n = l .before .before .before .before in
-    let s = n .before .before .before in
-    let g = place l in (
+    let l = goes-in r in
+    let n = counted (l .before) in
+    let g = here l in (
       ap not (sym (g .new)),
-      entered (cell-of n) (s .args .d) (s .args .a) (n .rows-of .result) (l .before .find .result .lo) (l .before .find .result .hi) (s .pre .0) (n .rows-of .ensures) g _ _ _
-          (r .before .before .interval-word .ensures) (r .replace .ensures) (c .count-word .ensures),
+      entered (cell-of n) _ _ _ _ _ (entry n .pre .0) (n .rows-of .ensures) g _ _ _ (r .before .before .interval-word .ensures) (r .replace .ensures)
+          (c .count-word .ensures),
     )
 
 pub enters-spec : {M : Type 1} → statement M

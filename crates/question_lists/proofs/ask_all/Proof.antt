@@ -1,6 +1,5 @@
 -- `ask_all` meets its contract: a walk of its MIR with a loop, by hand. `plan_for` says how many records are answered. The list's borrow is opened before the
 -- loop and closed after it. Each turn takes one record out, passes it to `asked`, and puts the record returned in its place.
---
 use mathlib.Core.Path.{_≡_, refl, sym, _∙_, ap, subst}
 use Prim.Native.Nat.{ℕ, zero, suc, _+_, _*_, _<_, _≤_, _^_}
 use native.Mathlib.Omega.{arith}

@@ -1,6 +1,5 @@
 -- `ask_four` meets its contract: a walk of its MIR, by hand. A local array of the four records is lent as a `&mut [Question]` for a lifetime that the walk makes,
 -- `ask_all` is called, and the array is back at the last records.
---
 use mathlib.Core.Path.{_≡_, refl, ap, _∙_, subst}
 use Prim.Native.Nat.{ℕ}
 use mathlib.Core.List.{[], _∷_, List, map}

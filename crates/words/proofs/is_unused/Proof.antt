@@ -1,5 +1,4 @@
 -- `words::is_unused` meets its contract: the layout has no field, so the whole word is compared.
---
 use mathlib.Core.Path.{refl}
 use Rattle.words.specs.Layout.{isOf}
 use Rattle.words.proofs.is_unused.Statement.{statement}

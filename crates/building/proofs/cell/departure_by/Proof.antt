@@ -2,7 +2,7 @@
 use borrow.Author.Needs.{needs}
 use mathlib.Core.Path.{_∙_}
 use native.Mathlib.Omega.{arith}
-use Rattle.building.proofs.RowsInUse.{Counted, counted, latest-empty, latest-last}
+use Rattle.building.proofs.RowsInUse.{Counted, counted, rows-in-use-of, latest-empty, latest-last}
 use Rattle.building.proofs.cell.departure_by.Statement.{statement}
 use Rattle.building.proofs.cell.departure_by.Tie as tie
 
@@ -34,12 +34,12 @@ returns-2 c =
     let a = c .before .before in
     c .departure-of .ensures ∙ latest-last _ (rows (some a .before)) (some a .if1 .left) (omega (arith, a .arrival-of .ensures))
 
-search-departure-requires : tie.Need-search-departure-requires
-search-departure-requires c κs = start (some (c .before) .before) .pre
+latest-departure-requires : tie.Need-latest-departure-requires
+latest-departure-requires c κs = rows-in-use-of (start (some (c .before) .before) .pre)
 
 pub departure-by-spec : {M : Type 1} → statement M
 departure-by-spec =
     tie.close
     (tie.spec
     (λ c. search needs) (λ c κs. search needs) (λ c. search needs) returns mul-w shared-slice-read-w (λ c κs. search needs) (λ c κs. search needs)
-    returns-2 search-departure-requires (λ c. c .search-departure .ensures))
+    returns-2 latest-departure-requires (λ c. c .latest-departure .ensures))

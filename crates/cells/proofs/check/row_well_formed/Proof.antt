@@ -10,12 +10,16 @@ use Rattle.cells.proofs.Checks.{stopped, passed, row-kind, row-departs,
 use Rattle.cells.proofs.check.row_well_formed.Statement.{statement}
 use Rattle.cells.proofs.check.row_well_formed.Tie as tie
 
-returns : tie.Need-returns
-returns c = sym (row-kind _ _ _ _ _ (stopped (c .before .is-interval .ensures) (c .if1 .taken)))
+-- Where the function was called, from its first test.
+abbrev entry : tie.After-is-interval → tie.Start
+entry c = c .before .before .before
 
 -- The word is an interval.
-kind : (c : tie.Else1) → isOf intervalLayout (c .before .before .before .before .args .w) ≡ true
+kind : (c : tie.Else1) → isOf intervalLayout (entry (c .before) .args .w) ≡ true
 kind c = passed (c .before .is-interval .ensures) (c .if1 .left)
+
+returns : tie.Need-returns
+returns c = sym (row-kind _ _ _ _ _ (stopped (c .before .is-interval .ensures) (c .if1 .taken)))
 
 returns-2 : tie.Need-returns-2
 returns-2 c = let o = c .before in sym (row-departs _ _ _ _ _ (kind o) (omega arith))

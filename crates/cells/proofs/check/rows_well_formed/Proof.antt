@@ -2,8 +2,9 @@
 -- The measure is what is left of the length.
 use native.Mathlib.Omega.{arith}
 use borrow.Author.Needs.{needs}
-use Prim.Native.Nat.{_-_, _≤_}
+use Prim.Native.Nat.{ℕ, _-_, _≤_}
 use mathlib.Core.Path.{_≡_, refl}
+use mathlib.Core.List.{List}
 use lib.ListN.{length, drop}
 use Rattle.rules.specs.Checks.{rowsWellFormed}
 use Rattle.cells.proofs.Checks.{rows-turn, rows-stop, rows-end}
@@ -17,34 +18,35 @@ Inv-loop rows ticks carry p₀ q₀ i₀ p q i =
 abbrev μ-loop : tie.MeasureT-loop
 μ-loop rows ticks carry p₀ q₀ i₀ p q i = length rows - i
 
+-- The turn, from its test of a row.
+abbrev turn : tie.After-row-well-formed Inv-loop μ-loop → tie.At-loop Inv-loop μ-loop
+turn c = c .before .before .before
+
+-- The rows, from a turn.
+abbrev rows-at : tie.At-loop Inv-loop μ-loop → List ℕ
+rows-at l = l .before .before .args .rows .now
+
 loop-holds : tie.Need-loop-holds Inv-loop μ-loop
 loop-holds c = (omega arith, refl)
 
 returns : tie.Need-returns Inv-loop μ-loop
 returns c =
     let r = c .before in
-    let l = r .before .before .before in
-    let s = l .before .before in
-    rows-stop (s .args .ticks) (s .args .carry) (l .loop .p) (l .loop .q) (s .args .rows .now) (l .loop .i) (l .loop .inv .1) (omega arith)
-    (r .row-well-formed .ensures) (c .if1 .taken)
+    let l = turn r in
+    rows-stop _ _ _ _ (rows-at l) (l .loop .i) (l .loop .inv .1) (omega arith) (r .row-well-formed .ensures) (c .if1 .taken)
 
 loop-again : tie.Need-loop-again Inv-loop μ-loop
 loop-again c =
     let o = c .before .before in
     let r = o .before in
-    let l = r .before .before .before in
-    let s = l .before .before in (
+    let l = turn r in (
       omega arith,
       rw (c .before .departure-of .ensures, c .arrival-of .ensures)
-          (rows-turn (s .args .ticks) (s .args .carry) (l .loop .p) (l .loop .q) (s .args .rows .now) (l .loop .i) (l .loop .inv .1) (omega arith)
-          (r .row-well-formed .ensures) (o .if1 .left)),
+          (rows-turn _ _ _ _ (rows-at l) (l .loop .i) (l .loop .inv .1) (omega arith) (r .row-well-formed .ensures) (o .if1 .left)),
     )
 
 returns-2 : tie.Need-returns-2 Inv-loop μ-loop
-returns-2 c =
-    let l = c .before in
-    let s = l .before .before in
-    rows-end (s .args .ticks) (s .args .carry) (l .loop .p) (l .loop .q) (s .args .rows .now) (l .loop .i) (l .loop .inv .1) (c .loop-test .left)
+returns-2 c = rows-end _ _ _ _ (rows-at (c .before)) (c .before .loop .i) (c .before .loop .inv .1) (c .loop-test .left)
 
 pub rows-well-formed-spec : {M : Type 1} → statement M
 rows-well-formed-spec =

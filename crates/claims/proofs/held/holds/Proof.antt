@@ -4,6 +4,7 @@ use Prim.Native.Nat.{ℕ, _+_}
 use native.Mathlib.Omega.{arith}
 use borrow.Author.Needs.{needs}
 use Rattle.rules.proofs.Sound.{opens-length}
+use Rattle.cells.proofs.Lent.{stored-in-use}
 use Rattle.pair_cells.proofs.Read.{Place, place}
 use Rattle.claims.proofs.Words.{holds-read}
 use Rattle.claims.proofs.held.holds.Statement.{statement}
@@ -40,7 +41,7 @@ part-stands-end : tie.Need-part-stands-end
 part-stands-end c = let p = here c in omega arith
 
 stands-requires : tie.Need-stands-requires
-stands-requires c κs = here (c .before) .stored
+stands-requires c κs = stored-in-use (here (c .before) .stored)
 
 returns : tie.Need-returns
 returns c =

@@ -1,5 +1,4 @@
 -- `places::first_arriving` meets its contract. The loop's invariant: the answer is at most `lo`.
---
 use Prim.Native.Nat.{_-_, _≤_}
 use mathlib.Core.List.{map}
 use native.Mathlib.Omega.{arith}
@@ -17,15 +16,19 @@ Inv-loop rows i a lo₀ lo = (frontBelow arrivalEnd a (map intervalOf rows) ≤ 
 abbrev μ-loop : tie.MeasureT-loop
 μ-loop rows i a lo₀ lo = lo
 
+-- The turn, from its reading of a row.
+abbrev turn : tie.After-arrival-of Inv-loop μ-loop → tie.At-loop Inv-loop μ-loop
+turn c = c .before .before .before
+
 returns : tie.Need-returns Inv-loop μ-loop
 returns c =
-    let l = c .before .before .before .before in
+    let l = turn (c .before) in
     let s = l .before .before in
     omega (arith, front-gt-word arrivalEnd (s .args .a) (s .args .rows .now) (l .loop .lo - 1) (omega arith) arrival-follows (s .pre .1) (omega arith))
 
 loop-again : tie.Need-loop-again Inv-loop μ-loop
 loop-again c =
-    let l = c .before .before .before .before in
+    let l = turn (c .before) in
     let s = l .before .before in
     omega (arith, front-le-word arrivalEnd (s .args .a) (s .args .rows .now) (l .loop .lo - 1) (omega arith) (omega arith))
 
