@@ -21,7 +21,7 @@ use Rattle.rules.specs.Answers.{ensure}
 use Rattle.rules.specs.Layout.{animals, cellsOf}
 use Rattle.rules.specs.Checks.{ValidTable}
 use Rattle.rules.specs.Adding.{ensurePair}
-use Rattle.rules.specs.Questions.{windowInRange, inOrder, ensureWindow}
+use Rattle.rules.specs.Windows.{windowInRange, inOrder, ensureWindow}
 use Rattle.rules.specs.Chains.{chainFrom, chainOf, chainRefusal, chainAnswerOf, chainAnswer, chainWords, chainLeaves}
 use Rattle.rules.proofs.Folds.{and-left, and-right}
 use Rattle.rules.proofs.Judged.{ensure-iff}

@@ -14,7 +14,7 @@ use Rattle.rules.specs.Answers.{ensure}
 use Rattle.rules.specs.Layout.{animals, ticks, cellAt}
 use Rattle.rules.specs.Checks.{ensureTable}
 use Rattle.rules.specs.Adding.{ensurePair}
-use Rattle.rules.specs.Questions.{ensureWindow}
+use Rattle.rules.specs.Windows.{ensureWindow}
 use Rattle.rules.specs.Chains.{Lead, nowhere, there, onward, Lowest, nobody, animal}
 use Rattle.cells.specs.Stored.{Stored}
 

@@ -18,9 +18,9 @@ use Rattle.rules.specs.Folds.{within}
 use Rattle.rules.specs.Layout.{animals, ticks, carry}
 use Rattle.rules.specs.Checks.{isOpen, wellFormed, ensureTable, ValidTable}
 use Rattle.rules.specs.Adding.{ensurePair}
-use Rattle.rules.specs.Questions.{lastArrival, windowInRange, inOrder, ensureWindow, ensureMoment, ensureAnimal, reachRefusal, momentRefusal, connectedRefusal, reachedRefusal}
+use Rattle.rules.specs.Questions.{ensureAnimal, reachRefusal, momentRefusal, connectedRefusal, reachedRefusal}
 use Rattle.rules.specs.Fresh.{Fresh}
-use Rattle.rules.specs.Fitting.{IsWindow, IsPair}
+use Rattle.rules.specs.Windows.{lastArrival, windowInRange, inOrder, ensureWindow, ensureMoment, IsWindow, IsPair}
 use Rattle.rules.proofs.Folds.{and-intro}
 use Rattle.rules.proofs.Judged.{ensure-iff, within-iff}
 use Rattle.rules.proofs.Fresh.{fresh-passes, fresh-animals, fresh-ticks, fresh-carry}

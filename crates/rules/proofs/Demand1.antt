@@ -9,7 +9,7 @@ use native.Mathlib.Omega.{arith}
 use lib.ListN.{length, getD, drop, length-append, length-map, length-drop, replicate}
 use lib.Dec.{leb, ltb, eqb}
 use borrow.Author.Tests.{leb-true}
-use Rattle.journeys.specs.Journey.{Contact, contact}
+use Rattle.journeys.specs.Journey.{Contact, contact, interval}
 use Rattle.journeys.specs.Cell.{latestDeparture, earliestArrival}
 use Rattle.journeys.specs.Adding.{Cells, add}
 use Rattle.rules.specs.declared.Refusal.{Refusal}
@@ -36,8 +36,9 @@ use Rattle.rules.specs.Fresh.{Fresh}
 use Rattle.rules.specs.CallLists.{LegalOf}
 use Rattle.rules.specs.Reading.{loggedContacts, readRefusal, different, readAnswer, readLeaves}
 use Rattle.rules.specs.Folds.{countBelow, within}
-use Rattle.rules.specs.Questions.{windowInRange, inOrder, setAnswerOf, isReached, setWords, reachedRefusal, reachedAnswer, reachedWords, reachedCount}
-use Rattle.rules.specs.Chains.{nowhere, there, onward, leads, Lowest, nobody, animal, lowest, prepend, follow, chainFrom, fromDeparture, withArrival, chainOf, chainRefusal, chainAnswerOf, chainAnswer, chainWords, chainLeaves}
+use Rattle.rules.specs.Windows.{fitsWindow, windowInRange, inOrder}
+use Rattle.rules.specs.Questions.{setAnswerOf, isReached, setWords, reachedRefusal, reachedAnswer, reachedWords, reachedCount}
+use Rattle.rules.specs.Chains.{nowhere, there, leadsOn, leads, Lowest, nobody, animal, lowest, prepend, follow, chainFrom, withTick, chainOf, chainRefusal, chainAnswerOf, chainAnswer, chainWords, chainLeaves}
 use Rattle.rules.specs.Counting.{tallySum, countedAnswer, countedLeaves, raised, countedTally}
 use Rattle.rules.specs.QuestionList.{asked, listRefusal, listAnswerOf, listAnswer, listLeaves}
 use Rattle.rules.specs.Demand1.{Demand1}
@@ -271,24 +272,25 @@ chain-short T goal b (suc most) x d = go (lowest (leads T goal b x d) (animals T
     go nobody h = omega arith
     go (animal z nowhere) h = omega arith
     go (animal z there) h = omega arith
-    go (animal z (onward e)) h = behind (contact x z d) (chainFrom T goal b most z e) (h z e)
+    go (animal z (leadsOn e)) h = behind (contact x z d) (chainFrom T goal b most z e) (h z e)
 
 -- A chain has at most n−1 contacts.
 chain-fits : (T : List ℕ) (u v first last : ℕ) → size (chainOf T u v first last) ≤ animals T - 1
 unfolding chainOf
 chain-fits T u v first last = arriving (earliestArrival (cellsOf T u v) first)
   where
-    leaving : (b : ℕ) (o : Option ℕ) → size (fromDeparture o (λ d. chainFrom T v b (animals T - 1) u d)) ≤ animals T - 1
+    fitting : (b d : ℕ) (t : Bool) → size (cond t (chainFrom T v b (animals T - 1) u d) none) ≤ animals T - 1
+    fitting b d true = chain-short T v b (animals T - 1) u d
+    fitting b d false = omega arith
+
+    leaving : (b : ℕ) (o : Option ℕ) → size (withTick o (λ d. cond (fitsWindow (interval d b) first last) (chainFrom T v b (animals T - 1) u d) none)) ≤ animals T - 1
     leaving b none = omega arith
-    leaving b (some d) = chain-short T v b (animals T - 1) u d
+    leaving b (some d) = fitting b d (fitsWindow (interval d b) first last)
 
-    by-last : (t : Bool) (o : Option (List Contact)) → size o ≤ animals T - 1 → size (cond t o none) ≤ animals T - 1
-    by-last true o h = h
-    by-last false o h = omega arith
-
-    arriving : (o : Option ℕ) → size (withArrival o last (λ b. fromDeparture (latestDeparture (cellsOf T u v) b) (λ d. chainFrom T v b (animals T - 1) u d))) ≤ animals T - 1
+    arriving : (o : Option ℕ)
+        → size (withTick o (λ b. withTick (latestDeparture (cellsOf T u v) b) (λ d. cond (fitsWindow (interval d b) first last) (chainFrom T v b (animals T - 1) u d) none))) ≤ animals T - 1
     arriving none = omega arith
-    arriving (some b) = by-last (leb b last) _ (leaving b (latestDeparture (cellsOf T u v) b))
+    arriving (some b) = leaving b (latestDeparture (cellsOf T u v) b)
 
 chain-kept : (T : List ℕ) (u v first last : ℕ) (B : List ℕ) (r : Refusal) → chainAnswer T u v first last B ≡ ChainRefused r → chainLeaves T u v first last B ≡ B
 unfolding chainAnswer chainLeaves

@@ -4,7 +4,6 @@ use mathlib.Core.Option.{Option, none}
 use mathlib.Core.List.{List, [], _∷_, map}
 use lib.ListN.{replicate}
 use Rattle.journeys.specs.Journey.{Contact}
-use Rattle.journeys.specs.Cell.{latestDeparture, earliestArrival}
 use Rattle.rules.specs.declared.AskAnswer.{AskAnswer}
 use Rattle.rules.specs.declared.AskAnswer.the-variants.{Yes, No}
 use Rattle.rules.specs.declared.TickAnswer.{TickAnswer}
@@ -12,7 +11,7 @@ use Rattle.rules.specs.declared.TickAnswer.the-variants.{Nothing}
 use Rattle.rules.specs.Answers.{unless, askAnswerOf}
 use Rattle.rules.specs.Layout.{animals, cellsOf}
 use Rattle.rules.specs.Questions.{reaches, reachRefusal, reachAnswer, earliestAnswer, latestAnswer, connectedAnswer, reachedAnswer, reachedWords, reachedCount}
-use Rattle.rules.specs.Chains.{Lead, Lowest, nobody, animal, orElse, leads, follow, fromDeparture, withArrival, chainRefusal, chainAnswerOf, chainWords, chainAnswer, chainLeaves}
+use Rattle.rules.specs.Chains.{Lead, Lowest, nobody, animal, orElse, leads, follow, ofKept, chainRefusal, chainAnswerOf, chainWords, chainAnswer, chainLeaves}
 use Rattle.rules.specs.Demand2.{Questions, Demand2}
 
 -- The questions with another rule for reach, for earliest arrival, for connected, and for the set's words.
@@ -90,9 +89,7 @@ chainFromOf zs T goal b (suc most) x d = follow x d (firstOf zs (leads T goal b 
 
 abbrev inOrderOf : (List ℕ → List ℕ) → Questions
 inOrderOf order =
-    withChain
-    (λ T u v first last.
-    withArrival (earliestArrival (cellsOf T u v) first) last (λ b. fromDeparture (latestDeparture (cellsOf T u v) b) (λ d. chainFromOf (order T) T v b (animals T - 1) u d)))
+    withChain (λ T u v first last. ofKept (cellsOf T u v) first last (λ b d. chainFromOf (order T) T v b (animals T - 1) u d))
 
 -- The animals below m, the highest first.
 unfoldable pub downFrom : ℕ → List ℕ
