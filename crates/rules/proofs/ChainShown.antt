@@ -102,7 +102,7 @@ module _ {n τ δ : ℕ} {S : Contacts} {T : List ℕ} (f : Fresh n τ δ S T) (
   shown-kept : (b d : ℕ) → Earliest S δ u v first b → Latest S δ u v b d → Shown (fitting b d)
   shown-kept b d e g = go (inside-outcome (interval d b) (window first last))
     where
-      go : {t : Bool} → Outcome (FitsWindow (interval d b) first last) ((d < first) ⊎ (last < b)) t → Shown (cond t (chainFrom T v b (animals T - 1) u d) none)
+      go : {t : Bool} → Outcome (FitsWindow (interval d b) first last) ((d < window first last .departure) ⊎ (window first last .arrival < b)) t → Shown (cond t (chainFrom T v b (animals T - 1) u d) none)
       go (holds h) = let r = found b d e g h in subst Shown (sym (r .1)) (named (r .2))
       go (fails o) = nothing (λ w. ⊎-elim (λ k. omega (arith, leaves b d e g)) (λ k. omega (arith, w .fits, e .least (w .taken) (w .journey) (w .fits .0))) o)
 
