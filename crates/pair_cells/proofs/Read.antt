@@ -8,7 +8,7 @@ use native.Mathlib.Nat.{mul-le-mul}
 use native.Mathlib.Omega.{arith}
 use lib.ListN.{length, take, drop}
 use Rattle.journeys.specs.Journey.{Interval, interval}
-use Rattle.journeys.specs.Cell.{Cell, Limits, latestDeparture, earliestArrival}
+use Rattle.journeys.specs.Cell.{Cell, Limits, latestDeparture, earliestArrival, hasInside}
 use Rattle.rules.specs.Limits.{maxAnimals, maxArrival, maxCells}
 use Rattle.rules.specs.Layout.{animals, ticks, carry, cellAt, cellOf, cellsOf}
 use Rattle.rules.specs.Checks.{ValidTable}
@@ -104,3 +104,8 @@ lent-of T p u v h k n s e f =
 pub stands-read : (T : List ℕ) (u v : ℕ) (i : Interval) {r : Bool} (lent : List ℕ) → lent ≡ cellAt (animals T) (ticks T) T u v → r ≡ stands i (cellOf lent) → r ≡ stands i (cellsOf T u v)
 unfolding cellsOf
 stands-read T u v i lent e f = f ∙ ap (λ (l : List ℕ). stands i (cellOf l)) e
+
+-- An interval of the lent words lies inside i where one of the cell does.
+pub fitting-read : (T : List ℕ) (u v : ℕ) (i : Interval) {r : Bool} (lent : List ℕ) → lent ≡ cellAt (animals T) (ticks T) T u v → r ≡ hasInside i (cellOf lent) → r ≡ hasInside i (cellsOf T u v)
+unfolding cellsOf
+fitting-read T u v i lent e f = f ∙ ap (λ (l : List ℕ). hasInside i (cellOf l)) e
