@@ -14,6 +14,7 @@ use Rattle.rules.specs.Layout.{animals, carry, cellsOf}
 use Rattle.rules.specs.Checks.{ValidTable}
 use Rattle.rules.specs.Adding.{stands, holds}
 use Rattle.rules.specs.Chains.{departureWith, Lead, nowhere, there, leadsOn, leadFrom, leads, Lowest, nobody, animal, orElse, lowest}
+use Rattle.rules.proofs.Held.{holds-at}
 use Rattle.rules.proofs.Sound.{table-sizes, passes-good}
 use Rattle.rules.proofs.Leads.{Departing, found, missing, departing, LowestOf, none-below, first-is, lowest-of}
 use Rattle.cells.specs.Stored.{orZero}
@@ -25,8 +26,7 @@ use Rattle.chains.specs.Found.{leadOf, lowestOf}
 module _ (T : List ℕ) (goal b x d z a : ℕ) (e : a ≡ d + carry T) {s : Bool} (f : s ≡ stands (interval d a) (cellsOf T x z)) where
   -- The contact is held where its interval stands in its cell.
   held-is : s ≡ holds T (contact x z d)
-  unfolding holds
-  held-is = f ∙ ap (λ (i : ℕ). stands (interval d i) (cellsOf T x z)) e
+  held-is = holds-at T x z d a e f
 
   -- A contact that is not held leads nowhere.
   pub lead-none : not s ≡ true → leadOf false 0 ≡ leads T goal b x d z

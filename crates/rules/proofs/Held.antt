@@ -196,3 +196,8 @@ module _ {n τ δ : ℕ} {S : Contacts} {T : List ℕ} (f : Fresh n τ δ S T) w
             to-last = omega (arith, l .to-last, fresh-ticks f);
             stands = fresh-holds k (l .from-below) (l .to-below) .1 s;
           })
+
+-- A table holds a contact where its interval, of which a is the arrival, stands in its cell.
+pub holds-at : (T : List ℕ) (u v t a : ℕ) {r : Bool} → a ≡ t + carry T → r ≡ Adding.stands (interval t a) (cellsOf T u v) → r ≡ Adding.holds T (contact u v t)
+unfolding Adding.holds
+holds-at T u v t a e f = f ∙ ap (λ (i : ℕ). Adding.stands (interval t i) (cellsOf T u v)) e
