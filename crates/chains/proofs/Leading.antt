@@ -9,6 +9,7 @@ use native.Mathlib.Omega.{arith}
 use lib.Dec.{ltb, eqb}
 use borrow.Author.Tests.{eq-eqb, ne-eqb, lt-ltb}
 use Rattle.journeys.specs.Journey.{contact, interval}
+use Rattle.journeys.proofs.Tests.{never}
 use Rattle.rules.specs.Limits.{maxTicks}
 use Rattle.rules.specs.Layout.{animals, carry, cellsOf}
 use Rattle.rules.specs.Checks.{ValidTable}
@@ -62,10 +63,10 @@ unfolding leads
 lead-bound T p goal b x d z hg hz q = go (holds T (contact x z d)) (eqb z goal) (eqb (d + carry T) b) (departing (d + carry T) b (cellsOf T z goal))
   where
     not-nowhere : nowhere ≡ leadsOn q → (1 ≤ q) × (q ≤ maxTicks)
-    not-nowhere e = absurd (let n : _≡_ {A = ℕ} 0 1 = cc in omega arith)
+    not-nowhere e = never cc
 
     not-there : there ≡ leadsOn q → (1 ≤ q) × (q ≤ maxTicks)
-    not-there e = absurd (let n : _≡_ {A = ℕ} 0 1 = cc in omega arith)
+    not-there e = never cc
 
     go : (h g t : Bool) {o : Option ℕ} → Departing (d + carry T) b (cellsOf T z goal) o
         → cond h (cond g (cond t there nowhere) (leadFrom o)) nowhere ≡ leadsOn q → (1 ≤ q) × (q ≤ maxTicks)
@@ -121,7 +122,7 @@ module _ (g : ℕ → Lead) where
   lowest-bound m z e = go (lowest-of g m)
     where
       go : {o : Lowest} → LowestOf g m o → animal z (leadOf true e) ≡ o → (z < m) × (g z ≡ leadOf true e)
-      go (none-below r) q = absurd (let n : _≡_ {A = ℕ} 0 1 = cc in omega arith)
+      go (none-below r) q = never cc
       go (first-is {z = y} {l = l} h k n r) q =
           let s : z ≡ y = cc in
           let t : leadOf true e ≡ l = cc in

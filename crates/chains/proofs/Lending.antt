@@ -8,7 +8,7 @@ use native.Mathlib.Nat.{le-refl}
 use native.Mathlib.Omega.{arith}
 use Rattle.journeys.specs.Journey.{Interval, interval}
 use Rattle.journeys.specs.Cell.{Cell, Rising, latestDeparture}
-use Rattle.journeys.proofs.Tests.{Outcome, holds, fails}
+use Rattle.journeys.proofs.Tests.{never, Outcome, holds, fails}
 use Rattle.journeys.proofs.Cover.{Covers, NotBefore, covers-member, rising-least, latest-iff}
 use Rattle.rules.specs.Layout.{animals, ticks, cellAt, cellOf, cellsOf}
 use Rattle.rules.specs.Checks.{ValidTable}
@@ -29,7 +29,7 @@ cell-rises T p u v h k = passes-good T p .cells u v h k .rising
 
 -- Two truth values are not the same.
 apart : {A : Type 0} → true ≡ false → A
-apart e = absurd (let z : _≡_ {A = ℕ} 0 1 = cc in omega arith)
+apart e = never cc
 
 -- What the test finds stands in the cell.
 is-member : (i : Interval) (c : Cell) → stands i c ≡ true → List·Memᴰ i c

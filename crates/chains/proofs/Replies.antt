@@ -12,6 +12,7 @@ use lib.Seq.{take-suc, drop-cons, set-at, length-take-le}
 use borrow.Author.Tests.{ltb-true, leb-true, le-leb, lt-leb, not-true, not-false}
 use Rattle.journeys.specs.Journey.{Contact, interval}
 use Rattle.journeys.specs.Cell.{latestDeparture, earliestArrival}
+use Rattle.journeys.proofs.Tests.{never}
 use Rattle.words.specs.Words.{contactWord}
 use Rattle.rules.specs.Limits.{maxTicks, maxCellWords}
 use Rattle.rules.specs.declared.Refusal.{Refusal}
@@ -131,12 +132,12 @@ pub record Accepted (T : List ℕ) (u v m : ℕ) : Type 0 where
 words-none : (o : Option (List Contact)) → none ≡ wordsOf o → o ≡ none
 unfolding wordsOf
 words-none none e = refl
-words-none (some l) e = absurd (let z : _≡_ {A = ℕ} 0 1 = cc in omega arith)
+words-none (some l) e = never cc
 
 -- A chain with these words is answered by their number, and they are written.
 words-some : (B ws : List ℕ) (o : Option (List Contact)) → some ws ≡ wordsOf o → (Chain (length ws) ≡ chainAnswerOf none o) × (ws ++ drop (length ws) B ≡ chainWords o B)
 unfolding wordsOf
-words-some B ws none e = absurd (let z : _≡_ {A = ℕ} 0 1 = cc in omega arith)
+words-some B ws none e = never cc
 words-some B ws (some l) e =
     let q : ws ≡ map contactWord l = cc in
     let r : length ws ≡ length l = ap length q ∙ length-map l contactWord in

@@ -13,6 +13,10 @@ use Rattle.journeys.specs.Cell.{inside}
 pub never : {A : Type 0} → _≡_ {A = ℕ} 0 1 → A
 never e = absurd (omega arith)
 
+-- A failed test has not passed.
+pub untrue : {A : Type 0} → false ≡ true → A
+untrue e = never (ap (λ (t : Bool). cond t 1 0) e)
+
 -- What holds where a test passes, and what where it fails.
 pub data Outcome (P Q : Type 0) : Bool → Type 0 where
   holds : P → Outcome P Q true
@@ -25,7 +29,7 @@ outcome false f g = fails (g refl)
 -- A test that is some fact, as an equation.
 pub outcome-iff : {P Q : Type 0} {b : Bool} → (Q → P → ⊥) → Outcome P Q b → (b ≡ true) ↔ P
 outcome-iff x (holds p) = (λ e. p, λ q. refl)
-outcome-iff x (fails q) = (λ e. never (ap (λ (t : Bool). cond t 1 0) e), λ p. absurd (x q p))
+outcome-iff x (fails q) = (λ e. untrue e, λ p. absurd (x q p))
 
 pub le-outcome : (a b : ℕ) → Outcome (a ≤ b) (b < a) (leb a b)
 le-outcome a b = outcome (leb a b) (leb-true a b) (leb-false a b)

@@ -12,7 +12,7 @@ use lib.ListN.{length, getD, replicate, length-append}
 use lib.Dec.{ltb, eqb}
 use Rattle.journeys.specs.Journey.{Contacts, Interval, interval, Inside, Journey, Minimal}
 use Rattle.journeys.specs.Cell.{Cell, hasInside, latestDeparture, earliestArrival}
-use Rattle.journeys.proofs.Tests.{never, Outcome, holds, fails, outcome-iff, eq-outcome, lt-outcome, and-outcome, or-outcome}
+use Rattle.journeys.proofs.Tests.{untrue, never, Outcome, holds, fails, outcome-iff, eq-outcome, lt-outcome, and-outcome, or-outcome}
 use Rattle.journeys.proofs.Cover.{Covers, covers-find, member-covers, hasInside-outcome, NotBefore, NotAfter, latest-iff, earliest-iff}
 use Rattle.journeys.proofs.Theorems.{fits-stored}
 use Rattle.rules.specs.Limits.{maxAnimals}
@@ -223,9 +223,6 @@ module _ {n τ δ : ℕ} {S : Contacts} {T : List ℕ} (f : Fresh n τ δ S T) w
     unfolding isReached
     reached-iff i = rw (fresh-animals f) (go (lt-outcome i n) (eq-outcome u i))
       where
-        untrue : {A : Type 0} → false ≡ true → A
-        untrue e = absurd (let z : _≡_ {A = ℕ} 0 1 = ap (λ (t : Bool). cond t 1 0) e in omega arith)
-
         go : {a b : Bool} → Outcome (i < n) (n ≤ i) a → Outcome (u ≡ i) (u ≢ i) b → ((a && not b && reaches T u i first last) ≡ true) ↔ ReachedFrom S δ n u first last i
         go (fails l) o = (λ q. untrue q, λ r. absurd (omega (arith, r .below)))
         go (holds l) (holds e) = (λ q. untrue q, λ r. absurd (r .other e))

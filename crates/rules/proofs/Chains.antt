@@ -10,6 +10,7 @@ use native.Mathlib.Omega.{arith}
 use native.Mathlib.Decide.{ℕ-discrete, decLe}
 use lib.ListN.{length}
 use Rattle.journeys.specs.Journey.{Contact, contact, Contacts, Interval, interval, Inside, JourneyTo, single, onward, Journey, Minimal}
+use Rattle.journeys.proofs.Tests.{never}
 use Rattle.journeys.proofs.Reach.{journey-carries}
 use Rattle.journeys.proofs.Cover.{departure-path, arrival-path}
 use Rattle.rules.specs.Layout.{animals, cellsOf}
@@ -51,7 +52,7 @@ module _ {S : Contacts} {δ goal b : ℕ} where
 
 module _ {n τ δ : ℕ} {S : Contacts} {T : List ℕ} (f : Fresh n τ δ S T) (goal b : ℕ) (hg : goal < n) where
   none-is : {A : Type 0} {l : List Contact} → none ≡ some l → A
-  none-is e = absurd (let q : _≡_ {A = ℕ} 0 1 = cc in omega arith)
+  none-is e = never cc
 
   some-is : {l m : List Contact} → some l ≡ some m → l ≡ m
   some-is e = cc

@@ -11,7 +11,7 @@ use lib.ListN.{getD}
 use lib.Dec.{leb, ltb, eqb}
 use borrow.Author.Tests.{eqb-true, eq-eqb, leb-true, le-leb, ltb-true, lt-ltb}
 use Rattle.journeys.specs.Journey.{Contact, contact, Contacts, Interval, interval, JourneyTo, single, onward, Journey}
-use Rattle.journeys.proofs.Tests.{never, outcome-iff, inside-outcome}
+use Rattle.journeys.proofs.Tests.{untrue, never, outcome-iff, inside-outcome}
 use Rattle.words.specs.Layout.{isOf}
 use Rattle.words.specs.Words.{contactLayout, contactOf, contactWord}
 use Rattle.words.proofs.Packed.{contactOf-word, contactWord-is, contactWord-of}
@@ -73,7 +73,7 @@ module _ {n τ δ : ℕ} {S : Contacts} {T : List ℕ} (f : Fresh n τ δ S T) w
 
   formed : (v x a : ℕ) (ws : List ℕ) → formJourney T v x a ws ≡ true → Forms v x a ws
   unfolding formJourney Forms
-  formed v x a [] e = never (ap (λ (b : Bool). cond b 1 0) e)
+  formed v x a [] e = untrue e
   formed v x a (w ∷ []) e =
       let k = contactOf w in
       let b₁ = heldWord T w in
@@ -113,7 +113,7 @@ module _ {n τ δ : ℕ} {S : Contacts} {T : List ℕ} (f : Fresh n τ δ S T) w
   -- The words of a journey begin with that of its first contact.
   forms-more : (v x a z t : ℕ) (l : List ℕ) → S (contact x z t) → a ≤ t → formJourney T v z (t + carry T) l ≡ true → formJourney T v x a (contactWord (contact x z t) ∷ l) ≡ true
   unfolding formJourney
-  forms-more v x a z t [] s h e = never (ap (λ (b : Bool). cond b 1 0) e)
+  forms-more v x a z t [] s h e = untrue e
   forms-more v x a z t (y ∷ ws) s h e =
       let r = sym (read (contact x z t) s) in
       and-intro _ _

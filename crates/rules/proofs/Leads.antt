@@ -10,7 +10,7 @@ use native.Mathlib.Omega.{arith}
 use lib.Dec.{leb, eqb}
 use Rattle.journeys.specs.Journey.{Contact, contact, Contacts, Interval, interval, Inside, Journey, single, onward, Minimal}
 use Rattle.journeys.specs.Cell.{Cell, Rising}
-use Rattle.journeys.proofs.Tests.{Outcome, holds, fails, outcome, eq-outcome, le-outcome, and-outcome}
+use Rattle.journeys.proofs.Tests.{never, untrue, Outcome, holds, fails, outcome, eq-outcome, le-outcome, and-outcome}
 use Rattle.journeys.proofs.Cover.{rising-after, departure-path, arrival-path}
 use Rattle.journeys.proofs.Theorems.{fits-stored}
 use Rattle.rules.specs.Layout.{animals, carry, cellsOf}
@@ -91,9 +91,6 @@ module _ {n τ δ : ℕ} {S : Contacts} {T : List ℕ} (f : Fresh n τ δ S T) (
   unfolding leads
   leads-to z hz = rw (fresh-carry f) (go (outcome (Adding.holds T (contact x z d)) (fresh-holds f (contact x z d) hx hz .0) (λ e s. untrue (sym e ∙ fresh-holds f (contact x z d) hx hz .1 s))) (eq-outcome z goal) (eq-outcome (d + δ) b))
     where
-      untrue : false ≡ true → ⊥
-      untrue e = let q : _≡_ {A = ℕ} 0 1 = ap (λ (t : Bool). cond t 1 0) e in omega arith
-
       further-on : S (contact x z d) → z ≢ goal → {o : Option ℕ} → Departing (d + δ) b (cellsOf T z goal) o → LeadsTo z (leadFrom o)
       further-on s k (found {d = e} m h) = going s k (stored-latest z hz s k e m h) (stored-minimal z hz s k e m)
       further-on s k (missing g) =
@@ -114,10 +111,10 @@ pub data LowestOf (g : ℕ → Lead) (m : ℕ) : Lowest → Type 0 where
   first-is : {z : ℕ} {l : Lead} → z < m → g z ≡ l → l ≢ nowhere → ((y : ℕ) → y < z → g y ≡ nowhere) → LowestOf g m (animal z l)
 
 not-nowhere-there : there ≢ nowhere
-not-nowhere-there e = let q : _≡_ {A = ℕ} 0 1 = cc in omega arith
+not-nowhere-there e = never cc
 
 not-nowhere-onward : (d : ℕ) → leadsOn d ≢ nowhere
-not-nowhere-onward d e = let q : _≡_ {A = ℕ} 0 1 = cc in omega arith
+not-nowhere-onward d e = never cc
 
 pub lowest-of : (g : ℕ → Lead) (m : ℕ) → LowestOf g m (lowest g m)
 unfolding lowest
