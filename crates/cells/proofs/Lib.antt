@@ -1,3 +1,4 @@
 pub mod Search
 pub mod Lent
 pub mod Checks
+pub mod Fitting

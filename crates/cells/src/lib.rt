@@ -6,13 +6,14 @@ ghost use Prim.Native.Nat.{_+_, _≤_};
 ghost use mathlib.Core.List.{map};
 ghost use lib.ListN.{length, getD};
 ghost use Rattle.journeys.specs.Journey.{interval};
-ghost use Rattle.journeys.specs.Cell.{Rising, latestDeparture, earliestArrival};
+ghost use Rattle.journeys.specs.Cell.{Rising, latestDeparture, earliestArrival, hasInside};
 ghost use Rattle.words.specs.Layout.{get};
 ghost use Rattle.words.specs.Words.{rowsField, intervalOf};
 ghost use Rattle.rules.specs.Limits.{maxTicks, maxCarry};
 ghost use Rattle.rules.specs.Layout.{cellOf};
 ghost use Rattle.rules.specs.Checks.{cellWellFormed};
 ghost use Rattle.rules.specs.Adding.{stands};
+ghost use Rattle.rules.specs.Windows.{window, fitsWindow};
 ghost use Rattle.cells.specs.Stored.{RowsInUse, departureEnd, arrivalEnd, frontBelow, orZero};
 
 // The first of the rows that departs at or after t: the number of rows before it.
@@ -123,4 +124,26 @@ pub fn is_well_formed(cell: &[u32], ticks: u32, carry: u32, most: u32) -> bool
         return false;
     }
     check::all_unused(&cell[end..])
+}
+
+// Whether the interval [departure, arrival] fits the window from `first` to `last`.
+pub fn fits(departure: u32, arrival: u32, first: u32, last: u32) -> bool
+    ensures { λ r. ⌜ r ≡ fitsWindow (interval departure arrival) first last ⌝ }
+{
+    first <= departure && arrival <= last
+}
+
+// Whether an interval of the cell fits the window from `first` to `last`: if any does, the first that departs at or after
+// `first` does.
+pub fn has_fitting(cell: &[u32], first: u32, last: u32) -> bool
+    requires { ⌜ RowsInUse (now cell) ⌝ }
+    ensures { λ r. ⌜ r ≡ hasInside (window first last) (cellOf (now (cell .entry))) ⌝ }
+{
+    let end = rows_end(cell);
+    let at = lower_bound_departure(&cell[1..end], first) + 1;
+    if at == end {
+        return false;
+    }
+    let w = cell[at];
+    fits(words::departure_of(w), words::arrival_of(w), first, last)
 }

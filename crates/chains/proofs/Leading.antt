@@ -9,11 +9,13 @@ use native.Mathlib.Omega.{arith}
 use lib.Dec.{ltb, eqb}
 use borrow.Author.Tests.{eq-eqb, ne-eqb, lt-ltb}
 use Rattle.journeys.specs.Journey.{contact, interval}
+use Rattle.journeys.proofs.Tests.{never}
 use Rattle.rules.specs.Limits.{maxTicks}
 use Rattle.rules.specs.Layout.{animals, carry, cellsOf}
 use Rattle.rules.specs.Checks.{ValidTable}
 use Rattle.rules.specs.Adding.{stands, holds}
-use Rattle.rules.specs.Chains.{departureWith, Lead, nowhere, there, onward, onwardFrom, leads, Lowest, nobody, animal, orElse, lowest}
+use Rattle.rules.specs.Chains.{departureWith, Lead, nowhere, there, leadsOn, leadFrom, leads, Lowest, nobody, animal, orElse, lowest}
+use Rattle.rules.proofs.Held.{holds-at}
 use Rattle.rules.proofs.Sound.{table-sizes, passes-good}
 use Rattle.rules.proofs.Leads.{Departing, found, missing, departing, LowestOf, none-below, first-is, lowest-of}
 use Rattle.cells.specs.Stored.{orZero}
@@ -25,8 +27,7 @@ use Rattle.chains.specs.Found.{leadOf, lowestOf}
 module _ (T : List ℕ) (goal b x d z a : ℕ) (e : a ≡ d + carry T) {s : Bool} (f : s ≡ stands (interval d a) (cellsOf T x z)) where
   -- The contact is held where its interval stands in its cell.
   held-is : s ≡ holds T (contact x z d)
-  unfolding holds
-  held-is = f ∙ ap (λ (i : ℕ). stands (interval d i) (cellsOf T x z)) e
+  held-is = holds-at T x z d a e f
 
   -- A contact that is not held leads nowhere.
   pub lead-none : not s ≡ true → leadOf false 0 ≡ leads T goal b x d z
@@ -48,27 +49,27 @@ module _ (T : List ℕ) (goal b x d z a : ℕ) (e : a ≡ d + carry T) {s : Bool
     unfolding leadOf leads
     lead-on n l q r =
         rw (passed held-is h, ne-eqb z goal n)
-        (go (departing a b (cellsOf T z goal)) q r ∙ ap (λ (i : ℕ). onwardFrom (departureWith i b (cellsOf T z goal))) e)
+        (go (departing a b (cellsOf T z goal)) q r ∙ ap (λ (i : ℕ). leadFrom (departureWith i b (cellsOf T z goal))) e)
       where
-        go : {o : Option ℕ} → Departing a b (cellsOf T z goal) o → (q : ℕ) → q ≡ orZero o → leadOf (ltb 0 q) q ≡ onwardFrom o
+        go : {o : Option ℕ} → Departing a b (cellsOf T z goal) o → (q : ℕ) → q ≡ orZero o → leadOf (ltb 0 q) q ≡ leadFrom o
         go (missing g) zero r = refl
         go (missing g) (suc q) r = absurd (omega arith)
         go (found {d = t} m k) zero r = absurd (omega arith)
-        go (found {d = t} m k) (suc q) r = rw (lt-ltb 0 (suc q) (omega arith)) (ap onward r)
+        go (found {d = t} m k) (suc q) r = rw (lt-ltb 0 (suc q) (omega arith)) (ap leadsOn r)
 
 -- The next departure is one of the table.
-pub lead-bound : (T : List ℕ) → ValidTable T → (goal b x d z : ℕ) → goal < animals T → z < animals T → (q : ℕ) → leads T goal b x d z ≡ onward q → (1 ≤ q) × (q ≤ maxTicks)
+pub lead-bound : (T : List ℕ) → ValidTable T → (goal b x d z : ℕ) → goal < animals T → z < animals T → (q : ℕ) → leads T goal b x d z ≡ leadsOn q → (1 ≤ q) × (q ≤ maxTicks)
 unfolding leads
 lead-bound T p goal b x d z hg hz q = go (holds T (contact x z d)) (eqb z goal) (eqb (d + carry T) b) (departing (d + carry T) b (cellsOf T z goal))
   where
-    not-nowhere : nowhere ≡ onward q → (1 ≤ q) × (q ≤ maxTicks)
-    not-nowhere e = absurd (let n : _≡_ {A = ℕ} 0 1 = cc in omega arith)
+    not-nowhere : nowhere ≡ leadsOn q → (1 ≤ q) × (q ≤ maxTicks)
+    not-nowhere e = never cc
 
-    not-there : there ≡ onward q → (1 ≤ q) × (q ≤ maxTicks)
-    not-there e = absurd (let n : _≡_ {A = ℕ} 0 1 = cc in omega arith)
+    not-there : there ≡ leadsOn q → (1 ≤ q) × (q ≤ maxTicks)
+    not-there e = never cc
 
     go : (h g t : Bool) {o : Option ℕ} → Departing (d + carry T) b (cellsOf T z goal) o
-        → cond h (cond g (cond t there nowhere) (onwardFrom o)) nowhere ≡ onward q → (1 ≤ q) × (q ≤ maxTicks)
+        → cond h (cond g (cond t there nowhere) (leadFrom o)) nowhere ≡ leadsOn q → (1 ≤ q) × (q ≤ maxTicks)
     go false g t w e = not-nowhere e
     go true true true w e = not-there e
     go true true false w e = not-nowhere e
@@ -121,7 +122,7 @@ module _ (g : ℕ → Lead) where
   lowest-bound m z e = go (lowest-of g m)
     where
       go : {o : Lowest} → LowestOf g m o → animal z (leadOf true e) ≡ o → (z < m) × (g z ≡ leadOf true e)
-      go (none-below r) q = absurd (let n : _≡_ {A = ℕ} 0 1 = cc in omega arith)
+      go (none-below r) q = never cc
       go (first-is {z = y} {l = l} h k n r) q =
           let s : z ≡ y = cc in
           let t : leadOf true e ≡ l = cc in

@@ -8,7 +8,7 @@ use native.Mathlib.Nat.{le-refl}
 use native.Mathlib.Omega.{arith}
 use Rattle.journeys.specs.Journey.{Interval, interval}
 use Rattle.journeys.specs.Cell.{Cell, Rising, latestDeparture}
-use Rattle.journeys.proofs.Tests.{Outcome, holds, fails}
+use Rattle.journeys.proofs.Tests.{untrue, Outcome, holds, fails}
 use Rattle.journeys.proofs.Cover.{Covers, NotBefore, covers-member, rising-least, latest-iff}
 use Rattle.rules.specs.Layout.{animals, ticks, cellAt, cellOf, cellsOf}
 use Rattle.rules.specs.Checks.{ValidTable}
@@ -27,24 +27,20 @@ cell-rises T p u v h k = passes-good T p .cells u v h k .rising
 
 -- ---- the departure with a given arrival
 
--- Two truth values are not the same.
-apart : {A : Type 0} → true ≡ false → A
-apart e = absurd (let z : _≡_ {A = ℕ} 0 1 = cc in omega arith)
-
 -- What the test finds stands in the cell.
 is-member : (i : Interval) (c : Cell) → stands i c ≡ true → List·Memᴰ i c
 is-member i c = go (stands-outcome i c)
   where
     go : {b : Bool} → Outcome (List·Memᴰ i c) (¬ List·Memᴰ i c) b → b ≡ true → List·Memᴰ i c
     go (holds m) e = m
-    go (fails n) e = apart (sym e)
+    go (fails n) e = untrue e
 
 -- What it does not find does not.
 no-member : (i : Interval) (c : Cell) → stands i c ≡ false → ¬ List·Memᴰ i c
 no-member i c = go (stands-outcome i c)
   where
     go : {b : Bool} → Outcome (List·Memᴰ i c) (¬ List·Memᴰ i c) b → b ≡ false → ¬ List·Memᴰ i c
-    go (holds m) e = apart e
+    go (holds m) e = untrue (sym e)
     go (fails n) e = n
 
 module _ (c : Cell) (a b d : ℕ) (e : d ≡ orZero (latestDeparture c b)) where

@@ -10,8 +10,9 @@ use lib.Dec.{ltb, leb, eqb}
 use lib.ListN.{length, getD, take, drop, set, length-map}
 use lib.Seq.{take-suc, drop-cons, set-at, length-take-le}
 use borrow.Author.Tests.{ltb-true, leb-true, le-leb, lt-leb, not-true, not-false}
-use Rattle.journeys.specs.Journey.{Contact}
+use Rattle.journeys.specs.Journey.{Contact, interval}
 use Rattle.journeys.specs.Cell.{latestDeparture, earliestArrival}
+use Rattle.journeys.proofs.Tests.{never}
 use Rattle.words.specs.Words.{contactWord}
 use Rattle.rules.specs.Limits.{maxTicks, maxCellWords}
 use Rattle.rules.specs.declared.Refusal.{Refusal}
@@ -21,12 +22,13 @@ use Rattle.rules.specs.Answers.{ensure}
 use Rattle.rules.specs.Layout.{animals, cellsOf}
 use Rattle.rules.specs.Checks.{ValidTable}
 use Rattle.rules.specs.Adding.{ensurePair}
-use Rattle.rules.specs.Questions.{windowInRange, inOrder, ensureWindow}
+use Rattle.rules.specs.Windows.{fitsWindow, windowInRange, inOrder, ensureWindow}
 use Rattle.rules.specs.Chains.{chainFrom, chainOf, chainRefusal, chainAnswerOf, chainAnswer, chainWords, chainLeaves}
 use Rattle.rules.proofs.Folds.{and-left, and-right}
 use Rattle.rules.proofs.Judged.{ensure-iff}
 use Rattle.rules.proofs.Sound.{table-sizes, passes-good}
 use Rattle.cells.specs.Stored.{orZero}
+use Rattle.cells.proofs.Checks.{stopped, passed}
 use Rattle.checks.specs.declared.Verdict.{Verdict}
 use Rattle.checks.specs.declared.Verdict.the-variants.{Passed, Refused}
 use Rattle.checks.specs.Verdicts.{verdictOf}
@@ -72,37 +74,50 @@ pub none-collected : (f : Bool) (k : ℕ) (ws : List ℕ) (o : Option (List ℕ)
 unfolding collected
 none-collected f k ws o e h = rw e h
 
-module _ (T : List ℕ) (p : ValidTable T) (u v : ℕ) (hu : u < animals T) (hv : v < animals T) (first last b : ℕ) (e : b ≡ orZero (earliestArrival (cellsOf T u v) first)) where
+-- What is known with the arrival kept: b is the earliest arrival from u at v, or 0.
+pub record Kept (T : List ℕ) (u v first b : ℕ) : Type 0 where
+  pub valid : ValidTable T
+  pub from-below : u < animals T
+  pub to-below : v < animals T
+  pub arrives : b ≡ orZero (earliestArrival (cellsOf T u v) first)
+
+module _ {T : List ℕ} {u v first b : ℕ} (k : Kept T u v first b) (last : ℕ) where
   -- No arrival: no chain.
   pub none-arrives : b ≡ 0 → chainOf T u v first last ≡ none
   unfolding chainOf
-  none-arrives z = rw (tick-none (earliestArrival (cellsOf T u v) first) b (earliest-from-one T p u v hu hv first) e z) refl
+  none-arrives z = rw (tick-none (earliestArrival (cellsOf T u v) first) b (earliest-from-one T (k .valid) u v (k .from-below) (k .to-below) first) (k .arrives) z) refl
 
-  module _ (n : b ≡ 0 → ⊥) where
-    -- An arrival after the last tick: no chain.
-    pub arrives-late : last < b → chainOf T u v first last ≡ none
+  module _ (n : b ≡ 0 → ⊥) {d : ℕ} (f : d ≡ orZero (latestDeparture (cellsOf T u v) b)) where
+    -- The arrival.
+    arrival-is : earliestArrival (cellsOf T u v) first ≡ some b
+    arrival-is = tick-some (earliestArrival (cellsOf T u v) first) b (k .arrives) n
+
+    -- No departure: no chain.
+    pub none-departs : d ≡ 0 → chainOf T u v first last ≡ none
     unfolding chainOf
-    arrives-late l = rw (tick-some (earliestArrival (cellsOf T u v) first) b e n, lt-leb b last l) refl
+    none-departs z = rw (arrival-is, tick-none (latestDeparture (cellsOf T u v) b) d (latest-from-one T (k .valid) u v (k .from-below) (k .to-below) b) f z) refl
 
-    module _ (l : b ≤ last) (d : ℕ) (f : d ≡ orZero (latestDeparture (cellsOf T u v) b)) where
-      -- No departure: no chain.
-      pub none-departs : d ≡ 0 → chainOf T u v first last ≡ none
+    module _ (z : d ≡ 0 → ⊥) {t : Bool} (q : t ≡ fitsWindow (interval d b) first last) where
+      -- The departure.
+      departure-is : latestDeparture (cellsOf T u v) b ≡ some d
+      departure-is = tick-some (latestDeparture (cellsOf T u v) b) d f z
+
+      -- The interval kept does not fit: no chain.
+      pub none-fits : not t ≡ true → chainOf T u v first last ≡ none
       unfolding chainOf
-      none-departs z =
-          rw (tick-some (earliestArrival (cellsOf T u v) first) b e n, le-leb b last l, tick-none (latestDeparture (cellsOf T u v) b) d (latest-from-one T p u v hu hv b) f z) refl
+      none-fits h = rw (arrival-is, departure-is, stopped q h) refl
 
       -- Else it is the chain from u at that departure.
-      pub departs : (d ≡ 0 → ⊥) → {o : Option (List ℕ)} → o ≡ wordsOf (chainFrom T v b (animals T - 1) u d) → o ≡ wordsOf (chainOf T u v first last)
+      pub departs : not t ≡ false → {o : Option (List ℕ)} → o ≡ wordsOf (chainFrom T v b (animals T - 1) u d) → o ≡ wordsOf (chainOf T u v first last)
       unfolding chainOf
-      departs z q =
-          rw (tick-some (earliestArrival (cellsOf T u v) first) b e n, le-leb b last l, tick-some (latestDeparture (cellsOf T u v) b) d f z) q
+      departs h e = rw (arrival-is, departure-is, passed q h) e
 
-      -- The departure is a tick of the table.
-      pub departs-by : d ≤ maxTicks
-      departs-by =
-          let z = table-sizes T in
-          let t : Tick maxCellWords (latestDeparture (cellsOf T u v) b) = latest-tick maxCellWords b (cellsOf T u v) (λ i q. let m = passes-good T p .cells u v hu hv .limits i q in omega (arith, m .departs, m .in-time, z .τ-high)) in
-          omega (arith, tick-below maxCellWords (latestDeparture (cellsOf T u v) b) (omega arith) t)
+  -- The departure is a tick of the table.
+  pub departs-by : {d : ℕ} → d ≡ orZero (latestDeparture (cellsOf T u v) b) → d ≤ maxTicks
+  departs-by {d} f =
+      let z = table-sizes T in
+      let t : Tick maxCellWords (latestDeparture (cellsOf T u v) b) = latest-tick maxCellWords b (cellsOf T u v) (λ i q. let m = passes-good T (k .valid) .cells u v (k .from-below) (k .to-below) .limits i q in omega (arith, m .departs, m .in-time, z .τ-high)) in
+      omega (arith, tick-below maxCellWords (latestDeparture (cellsOf T u v) b) (omega arith) t)
 
 -- ---- the answer
 
@@ -117,12 +132,12 @@ pub record Accepted (T : List ℕ) (u v m : ℕ) : Type 0 where
 words-none : (o : Option (List Contact)) → none ≡ wordsOf o → o ≡ none
 unfolding wordsOf
 words-none none e = refl
-words-none (some l) e = absurd (let z : _≡_ {A = ℕ} 0 1 = cc in omega arith)
+words-none (some l) e = never cc
 
 -- A chain with these words is answered by their number, and they are written.
 words-some : (B ws : List ℕ) (o : Option (List Contact)) → some ws ≡ wordsOf o → (Chain (length ws) ≡ chainAnswerOf none o) × (ws ++ drop (length ws) B ≡ chainWords o B)
 unfolding wordsOf
-words-some B ws none e = absurd (let z : _≡_ {A = ℕ} 0 1 = cc in omega arith)
+words-some B ws none e = never cc
 words-some B ws (some l) e =
     let q : ws ≡ map contactWord l = cc in
     let r : length ws ≡ length l = ap length q ∙ length-map l contactWord in

@@ -14,15 +14,15 @@ use Rattle.rules.specs.Answers.{ensure}
 use Rattle.rules.specs.Layout.{animals, ticks, cellAt}
 use Rattle.rules.specs.Checks.{ensureTable}
 use Rattle.rules.specs.Adding.{ensurePair}
-use Rattle.rules.specs.Questions.{ensureWindow}
-use Rattle.rules.specs.Chains.{Lead, nowhere, there, onward, Lowest, nobody, animal}
+use Rattle.rules.specs.Windows.{ensureWindow}
+use Rattle.rules.specs.Chains.{Lead, nowhere, there, leadsOn, Lowest, nobody, animal}
 use Rattle.cells.specs.Stored.{Stored}
 
 -- Whether a contact leads on, and the next departure; 0 at the goal.
 unfoldable pub leadOf : Bool → ℕ → Lead
 leadOf false e = nowhere
 leadOf true zero = there
-leadOf true (suc e) = onward (suc e)
+leadOf true (suc e) = leadsOn (suc e)
 
 -- Whether an animal was found, which, and the next departure from it; 0 at the goal.
 unfoldable pub lowestOf : Bool → ℕ → ℕ → Lowest

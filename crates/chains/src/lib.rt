@@ -74,11 +74,11 @@ fn find(table: &[u32], u: u32, v: u32, first: u32, last: u32) -> Steps
     if arrival == 0 {
         return steps::none();
     }
-    if last < arrival {
-        return steps::none();
-    }
     let departure = pair_cells::last_departure(table, u, v, arrival);
     if departure == 0 {
+        return steps::none();
+    }
+    if !cells::fits(departure, arrival, first, last) {
         return steps::none();
     }
     steps::collect(table, v, arrival, u, departure)

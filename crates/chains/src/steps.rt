@@ -11,13 +11,13 @@ ghost use Rattle.chains.specs.Found.{leadOf, lowestOf, wordsOf, collecte
 use tables::Opening;
 
 // Whether a contact leads on, and the next departure; 0 at the goal.
-struct Way {
+struct Lead {
     on: bool,
     next: u32,
 }
 
 // Whether a contact leads to an animal, to which, and the next departure from it; 0 at the goal.
-struct Next {
+struct LowestLead {
     found: bool,
     animal: u32,
     next: u32,
@@ -42,46 +42,46 @@ pub(crate) fn none() -> Steps
 }
 
 // Where the contact (x, z, d) leads towards the goal with arrival b.
-fn lead(table: &[u32], goal: u32, b: u32, x: u32, d: u32, z: u32) -> Way
+fn lead_to(table: &[u32], goal: u32, b: u32, x: u32, d: u32, z: u32) -> Lead
     requires { ⌜ ValidTable (now table) ⌝ }
     requires { ⌜ (x < animals (now table)) × (z < animals (now table)) × (goal < animals (now table)) × (d ≤ maxTicks) ⌝ }
     ensures { λ r. ⌜ leadOf (r .on) (r .next) ≡ leads (now (table .entry)) goal b x d z ⌝ }
 {
     let a = d + words::carry_of(table[0]);
     if !pair_cells::stands(table, x, z, d, a) {
-        return Way { on: false, next: 0 };
+        return Lead { on: false, next: 0 };
     }
     if z == goal {
-        return Way {
+        return Lead {
             on: a == b,
             next: 0,
         };
     }
     let next = crate::pairs::departure_with(table, z, goal, a, b);
-    Way {
+    Lead {
         on: 0 < next,
         next: next,
     }
 }
 
 // The lowest-numbered animal to which a contact of x at d leads.
-fn lowest(table: &[u32], goal: u32, b: u32, x: u32, d: u32) -> Next
+fn lowest(table: &[u32], goal: u32, b: u32, x: u32, d: u32) -> LowestLead
     requires { ⌜ ValidTable (now table) ⌝ }
     requires { ⌜ (x < animals (now table)) × (goal < animals (now table)) × (d ≤ maxTicks) ⌝ }
     ensures { λ r. ⌜ lowestOf (r .found) (r .animal) (r .next) ≡ lowest (leads (now (table .entry)) goal b x d) (animals (now (table .entry))) ⌝ }
 {
     let n = words::animals_of(table[0]);
     for z in 0..n {
-        let step = lead(table, goal, b, x, d, z);
+        let step = lead_to(table, goal, b, x, d, z);
         if step.on {
-            return Next {
+            return LowestLead {
                 found: true,
                 animal: z,
                 next: step.next,
             };
         }
     }
-    Next {
+    LowestLead {
         found: false,
         animal: 0,
         next: 0,

@@ -17,7 +17,8 @@ use Rattle.rules.specs.Checks.{isOpen, wellFormed, ValidTable, ensureTable}
 use Rattle.rules.specs.Limits.{maxAnimals, maxTicks, maxCarry}
 use Rattle.rules.specs.Opening.{ensureSizes}
 use Rattle.rules.specs.Adding.{ensurePair, ensureTick}
-use Rattle.rules.specs.Questions.{lastArrival, windowInRange, inOrder, ensureWindow, ensureMoment, ensureAnimal}
+use Rattle.rules.specs.Windows.{lastArrival, windowInRange, inOrder, ensureWindow, ensureMoment}
+use Rattle.rules.specs.Questions.{ensureAnimal}
 use Rattle.rules.proofs.Judged.{ensure-iff}
 use Rattle.rules.proofs.Sound.{opens-length}
 use Rattle.cells.proofs.Checks.{stopped, passed}

@@ -6,7 +6,8 @@ ghost use lib.ListN.{length};
 ghost use Rattle.rules.specs.Folds.{within};
 ghost use Rattle.rules.specs.Checks.{ensureTable};
 ghost use Rattle.rules.specs.Adding.{ensurePair, ensureTick};
-ghost use Rattle.rules.specs.Questions.{lastArrival, ensureWindow, ensureMoment, ensureAnimal};
+ghost use Rattle.rules.specs.Windows.{lastArrival, ensureWindow, ensureMoment};
+ghost use Rattle.rules.specs.Questions.{ensureAnimal};
 ghost use Rattle.checks.specs.Verdicts.{verdictOf};
 use rules::Refusal;
 

@@ -19,7 +19,7 @@ module _ (T : List ℕ) (u v first last : ℕ) (ws : List ℕ) (w : Verdict) (p 
   unfolding claimedAnswer
   claimed-refused r q = rw (verdict-refused (reachRefusal T u v first last) r (sym p ∙ q)) refl
 
-  module _ (q : w ≡ Passed) {b : Bool} (e : b ≡ spells T v last u first ws) where
+  module _ (q : w ≡ Passed) {b : Bool} (e : b ≡ spells T u v first last ws) where
     -- Nothing is refused.
     accepted : reachRefusal T u v first last ≡ none
     accepted = verdict-passed (reachRefusal T u v first last) (sym p ∙ q)

@@ -2,7 +2,7 @@
 use Prim.Native.Nat.{ℕ, _+_}
 use mathlib.Core.Bool.{Bool, _&&_}
 use mathlib.Core.List.{List, [], _∷_}
-use lib.Dec.{leb, eqb}
+use lib.Dec.{eqb}
 use Rattle.words.specs.Words.{contactOf}
 use Rattle.rules.specs.Layout.{carry}
 use Rattle.rules.specs.Claims.{heldWord, leavesFrom}
@@ -11,7 +11,7 @@ use Rattle.rules.specs.Claims.{heldWord, leavesFrom}
 unfoldable pub goesOn : List ℕ → ℕ → ℕ → ℕ → Bool
 goesOn T x a w = heldWord T w && leavesFrom x a (contactOf w)
 
--- The words, of which there may be none, lead on from x at tick a to v by last.
-unfoldable pub follows : List ℕ → ℕ → ℕ → ℕ → ℕ → List ℕ → Bool
-follows T v last x a [] = eqb x v && leb a last
-follows T v last x a (w ∷ ws) = goesOn T x a w && follows T v last (contactOf w .to) (contactOf w .tick + carry T) ws
+-- The words, of which there may be none, lead on from x at tick a to v. The positions are those of `formJourney`.
+unfoldable pub follows : List ℕ → ℕ → ℕ → ℕ → List ℕ → Bool
+follows T v x a [] = eqb x v
+follows T v x a (w ∷ ws) = goesOn T x a w && follows T v (contactOf w .to) (contactOf w .tick + carry T) ws

@@ -15,13 +15,8 @@ fn holds(table: &[u32], u: u32, v: u32, t: u32) -> bool
     requires { ⌜ (u < animals (now table)) × (v < animals (now table)) × (t ≤ maxTicks) ⌝ }
     ensures { λ r. ⌜ r ≡ holds (now (table .entry)) (contact u v t) ⌝ }
 {
-    let w = table[0];
-    let n = words::animals_of(w) as usize;
-    let size = words::ticks_of(w) as usize + 1;
-    let a = t + words::carry_of(w);
-    let at = 1 + (u as usize * n + v as usize) * size;
-    let end = at + size;
-    cells::stands(&table[at..end], t, a)
+    let a = t + words::carry_of(table[0]);
+    pair_cells::stands(table, u, v, t, a)
 }
 
 // Whether the word is a contact word whose contact the table holds.

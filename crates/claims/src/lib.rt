@@ -8,15 +8,15 @@ ghost use Rattle.claims.specs.Following.{follows};
 use checks::Verdict;
 use rules::AskAnswer;
 
-// Whether the words lead on from u at tick `first` to v by `last`, each a held contact that leaves where and when the one
-// before it has arrived.
-fn follows(table: &[u32], u: u32, v: u32, first: u32, last: u32, chain: &[u32]) -> bool
+// Whether the words, of which there may be none, lead on from u to v, each a held contact that leaves where and when the
+// one before it has arrived.
+fn follows(table: &[u32], u: u32, v: u32, chain: &[u32]) -> bool
     requires { ⌜ ValidTable (now table) ⌝ }
-    ensures { λ r. ⌜ r ≡ follows (now (table .entry)) v last u first (now (chain .entry)) ⌝ }
+    ensures { λ r. ⌜ r ≡ follows (now (table .entry)) v u 0 (now (chain .entry)) ⌝ }
 {
     let carry = words::carry_of(table[0]);
     let mut x = u;
-    let mut a = first;
+    let mut a = 0;
     let mut i = 0;
     while i < chain.len() {
         let w = chain[i];
@@ -27,24 +27,23 @@ fn follows(table: &[u32], u: u32, v: u32, first: u32, last: u32, chain: &[u32]) 
         a = words::tick_of(w) + carry;
         i += 1;
     }
-    if x != v {
-        return false;
-    }
-    if last < a {
-        return false;
-    }
-    true
+    x == v
 }
 
 // Whether there are words and they form a journey of held contacts from u to v that fits the window.
 fn spells(table: &[u32], u: u32, v: u32, first: u32, last: u32, chain: &[u32]) -> bool
     requires { ⌜ ValidTable (now table) ⌝ }
-    ensures { λ r. ⌜ r ≡ spells (now (table .entry)) v last u first (now (chain .entry)) ⌝ }
+    ensures { λ r. ⌜ r ≡ spells (now (table .entry)) u v first last (now (chain .entry)) ⌝ }
 {
     if chain.len() == 0 {
         return false;
     }
-    follows(table, u, v, first, last, chain)
+    if !follows(table, u, v, chain) {
+        return false;
+    }
+    let departure = words::tick_of(chain[0]);
+    let arrival = words::tick_of(chain[chain.len() - 1]) + words::carry_of(table[0]);
+    cells::fits(departure, arrival, first, last)
 }
 
 // Whether the words spell a journey of held contacts from u to v that fits the window. Refuses with 5, 6, 7, 8, 9.

@@ -146,6 +146,23 @@ sooner-iff b d (some e) = (λ h. pick (le-outcome d b) h, ⊎-elim (λ h. omega 
     pick (holds k) h = inl k
     pick (fails k) h = inr (omega arith)
 
+-- A cell with one interval more covers what the cell covered, and what that interval lies inside.
+module _ {i p : Interval} {c : Cell} {A : Type 0} (r : A ↔ Covers p c) where
+  covers-more : {B X : Type 0} → B ↔ (X ⊎ A) → X ↔ Inside i p → B ↔ Covers p (i ∷ c)
+  covers-more {B} {X} f g = (λ h. ⊎-elim (λ k. here (g .0 k)) (λ k. there (r .0 k)) (f .0 h), back)
+    where
+      back : Covers p (i ∷ c) → B
+      back (here h) = f .1 (inl (g .1 h))
+      back (there v) = f .1 (inr (r .1 v))
+
+  -- And no more where it does not lie inside.
+  covers-other : ¬ Inside i p → A ↔ Covers p (i ∷ c)
+  covers-other n = (λ h. there (r .0 h), back)
+    where
+      back : Covers p (i ∷ c) → A
+      back (here h) = absurd (n h)
+      back (there v) = r .1 v
+
 -- [a, t] is covered exactly when the latest departure with arrival at most t is a or later.
 pub latest-iff : (a t : ℕ) (c : Cell) → NotBefore a (latestDeparture c t) ↔ Covers (interval a t) c
 unfolding latestDeparture
@@ -154,16 +171,8 @@ latest-iff a t (i ∷ c) = go (latest-iff a t c) (le-outcome (i .arrival) t)
   where
     go : {b : Bool} → NotBefore a (latestDeparture c t) ↔ Covers (interval a t) c → Outcome (i .arrival ≤ t) (t < i .arrival) b
         → NotBefore a (cond b (later (i .departure) (latestDeparture c t)) (latestDeparture c t)) ↔ Covers (interval a t) (i ∷ c)
-    go r (holds l) = (λ h. ⊎-elim (λ k. here (k, l)) (λ k. there (r .0 k)) (later-iff a (i .departure) (latestDeparture c t) .0 h), back)
-      where
-        back : Covers (interval a t) (i ∷ c) → NotBefore a (later (i .departure) (latestDeparture c t))
-        back (here h) = later-iff a (i .departure) (latestDeparture c t) .1 (inl (h .0))
-        back (there v) = later-iff a (i .departure) (latestDeparture c t) .1 (inr (r .1 v))
-    go r (fails l) = (λ h. there (r .0 h), back)
-      where
-        back : Covers (interval a t) (i ∷ c) → NotBefore a (latestDeparture c t)
-        back (here h) = absurd (omega arith)
-        back (there v) = r .1 v
+    go r (holds l) = covers-more r (later-iff a (i .departure) (latestDeparture c t)) (λ k. (k, l), λ h. h .0)
+    go r (fails l) = covers-other r (λ h. omega arith)
 
 -- [t, b] is covered exactly when the earliest arrival with departure at least t is b or sooner.
 pub earliest-iff : (t b : ℕ) (c : Cell) → NotAfter b (earliestArrival c t) ↔ Covers (interval t b) c
@@ -173,16 +182,8 @@ earliest-iff t b (i ∷ c) = go (earliest-iff t b c) (le-outcome t (i .departure
   where
     go : {q : Bool} → NotAfter b (earliestArrival c t) ↔ Covers (interval t b) c → Outcome (t ≤ i .departure) (i .departure < t) q
         → NotAfter b (cond q (sooner (i .arrival) (earliestArrival c t)) (earliestArrival c t)) ↔ Covers (interval t b) (i ∷ c)
-    go r (holds l) = (λ h. ⊎-elim (λ k. here (l, k)) (λ k. there (r .0 k)) (sooner-iff b (i .arrival) (earliestArrival c t) .0 h), back)
-      where
-        back : Covers (interval t b) (i ∷ c) → NotAfter b (sooner (i .arrival) (earliestArrival c t))
-        back (here h) = sooner-iff b (i .arrival) (earliestArrival c t) .1 (inl (h .1))
-        back (there v) = sooner-iff b (i .arrival) (earliestArrival c t) .1 (inr (r .1 v))
-    go r (fails l) = (λ h. there (r .0 h), back)
-      where
-        back : Covers (interval t b) (i ∷ c) → NotAfter b (earliestArrival c t)
-        back (here h) = absurd (omega arith)
-        back (there v) = r .1 v
+    go r (holds l) = covers-more r (sooner-iff b (i .arrival) (earliestArrival c t)) (λ k. (l, k), λ h. h .1)
+    go r (fails l) = covers-other r (λ h. omega arith)
 
 -- ---- the test for an interval inside
 

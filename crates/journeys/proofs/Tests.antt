@@ -1,6 +1,6 @@
 -- A test with its meaning: what holds where it passes, and what holds where it fails.
-use mathlib.Core.Path.{_≡_, refl}
-use mathlib.Core.Logic.{_⊎_, inl, inr, _≢_}
+use mathlib.Core.Path.{_≡_, refl, ap}
+use mathlib.Core.Logic.{_↔_, _⊎_, inl, inr, _≢_}
 use mathlib.Core.Bool.{Bool, true, false, cond, not, _&&_, _||_}
 use Prim.Native.Nat.{ℕ, _≤_, _<_}
 use native.Mathlib.Omega.{arith}
@@ -9,6 +9,15 @@ use borrow.Author.Tests.{leb-true, leb-false, ltb-true, ltb-false, eqb-true, eqb
 use Rattle.journeys.specs.Journey.{Interval, Inside}
 use Rattle.journeys.specs.Cell.{inside}
 
+-- 0 is not 1, so anything follows.
+pub never : {A : Type 0} → _≡_ {A = ℕ} 0 1 → A
+never e = absurd (omega arith)
+
+-- A failed test has not passed.
+pub untrue : {A : Type 0} → false ≡ true → A
+untrue e = never (ap (λ (t : Bool). cond t 1 0) e)
+
+-- What holds where a test passes, and what where it fails.
 pub data Outcome (P Q : Type 0) : Bool → Type 0 where
   holds : P → Outcome P Q true
   fails : Q → Outcome P Q false
@@ -16,6 +25,11 @@ pub data Outcome (P Q : Type 0) : Bool → Type 0 where
 pub outcome : {P Q : Type 0} (b : Bool) → (b ≡ true → P) → (b ≡ false → Q) → Outcome P Q b
 outcome true f g = holds (f refl)
 outcome false f g = fails (g refl)
+
+-- A test that is some fact, as an equation.
+pub outcome-iff : {P Q : Type 0} {b : Bool} → (Q → P → ⊥) → Outcome P Q b → (b ≡ true) ↔ P
+outcome-iff x (holds p) = (λ e. p, λ q. refl)
+outcome-iff x (fails q) = (λ e. untrue e, λ p. absurd (x q p))
 
 pub le-outcome : (a b : ℕ) → Outcome (a ≤ b) (b < a) (leb a b)
 le-outcome a b = outcome (leb a b) (leb-true a b) (leb-false a b)

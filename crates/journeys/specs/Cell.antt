@@ -52,16 +52,16 @@ unfoldable pub earliestArrival : Cell → ℕ → Option ℕ
 earliestArrival [] t = none
 earliestArrival (i ∷ c) t = cond (leb t (i .departure)) (sooner (i .arrival) (earliestArrival c t)) (earliestArrival c t)
 
--- The first interval lies inside the second, or equals it.
+-- The interval j lies inside i, or equals it: the inner one stands first.
 abbrev pub inside : Interval → Interval → Bool
 inside j i = leb (i .departure) (j .departure) && leb (j .arrival) (i .arrival)
 
--- An interval inside i, or equal to it, stands in the cell.
+-- An interval inside i, or equal to it, stands in the cell: i is the outer one.
 unfoldable pub hasInside : Interval → Cell → Bool
 hasInside i [] = false
 hasInside i (j ∷ c) = inside j i || hasInside i c
 
--- The cell without the intervals that contain i.
+-- The cell without the intervals that contain i: i is the inner one.
 unfoldable pub withoutContaining : Interval → Cell → Cell
 withoutContaining i [] = []
 withoutContaining i (j ∷ c) = cond (inside i j) (withoutContaining i c) (j ∷ withoutContaining i c)

@@ -41,12 +41,13 @@ pub record Interval : Type 0 where
 abbrev pub interval : ℕ → ℕ → Interval
 interval a b = record { departure = a; arrival = b }
 
--- The first interval lies inside the second, or equals it.
+-- The interval j lies inside i, or equals it: the inner one stands first.
 abbrev pub Inside : Interval → Interval → Type 0
 Inside j i = (i .departure ≤ j .departure) × (j .arrival ≤ i .arrival)
 
 -- A journey that arrives at y at b, from x with departure a: one contact or more, each starting where the last
--- arrived, at or after that arrival. An animal may come twice.
+-- arrived, at or after that arrival. An animal may come twice. The positions are: the contacts, the carry time, the animal y where it ends
+-- and its arrival b there, then the animal x where it begins and its departure a.
 pub data JourneyTo (S : Contacts) (δ y b : ℕ) : ℕ → ℕ → Type 0 where
   single : {x a : ℕ} → S (contact x y a) → a + δ ≡ b → JourneyTo S δ y b x a
   onward : {x a : ℕ} (z s : ℕ) → S (contact x z a) → a + δ ≤ s → JourneyTo S δ y b z s → JourneyTo S δ y b x a

@@ -18,7 +18,8 @@ use Rattle.rules.specs.Folds.{countBelow}
 use Rattle.rules.specs.Layout.{animals, cellsOf}
 use Rattle.rules.specs.Checks.{isOpen, wellFormed, ValidTable, ensureTable}
 use Rattle.rules.specs.Adding.{ensurePair}
-use Rattle.rules.specs.Questions.{ensureWindow, ensureMoment, ensureAnimal, reaches, reachRefusal, reachAnswer, momentRefusal, earliestAnswer, latestAnswer, connects, connectedRefusal, connectedAnswer, isReached, setWords, reachedRefusal, reachedAnswer, reachedWords, reachedCount}
+use Rattle.rules.specs.Windows.{ensureWindow, ensureMoment}
+use Rattle.rules.specs.Questions.{ensureAnimal, reaches, reachRefusal, reachAnswer, momentRefusal, earliestAnswer, latestAnswer, connects, connectedRefusal, connectedAnswer, isReached, setWords, reachedRefusal, reachedAnswer, reachedWords, reachedCount}
 use Rattle.rules.proofs.Folds.{and-left, and-right}
 use Rattle.rules.proofs.Judged.{ensure-iff}
 use Rattle.cells.specs.Stored.{orZero}

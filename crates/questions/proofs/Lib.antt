@@ -1,4 +1,3 @@
-pub mod Pairs
 pub mod Answered
 pub mod Passing
 pub mod Collecting

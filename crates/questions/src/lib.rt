@@ -21,11 +21,7 @@ pub fn reaches(table: &[u32], u: u32, v: u32, first: u32, last: u32) -> bool
     requires { ⌜ (u < animals (now table)) × (v < animals (now table)) ⌝ }
     ensures { λ r. ⌜ r ≡ reaches (now (table .entry)) u v first last ⌝ }
 {
-    let soonest = pair_cells::first_arrival(table, u, v, first);
-    if soonest == 0 {
-        return false;
-    }
-    soonest <= last
+    pair_cells::has_fitting(table, u, v, first, last)
 }
 
 // Whether v can have been reached from u in the window, on a table that passed 5 and 6. Refuses with 7, 8, 9.

@@ -12,7 +12,7 @@ use lib.ListN.{length, getD, replicate, length-append}
 use lib.Dec.{ltb, eqb}
 use Rattle.journeys.specs.Journey.{Contacts, Interval, interval, Inside, Journey, Minimal}
 use Rattle.journeys.specs.Cell.{Cell, hasInside, latestDeparture, earliestArrival}
-use Rattle.journeys.proofs.Tests.{Outcome, holds, fails, eq-outcome, lt-outcome, and-outcome, or-outcome}
+use Rattle.journeys.proofs.Tests.{untrue, never, Outcome, holds, fails, outcome-iff, eq-outcome, lt-outcome, and-outcome, or-outcome}
 use Rattle.journeys.proofs.Cover.{Covers, covers-find, member-covers, hasInside-outcome, NotBefore, NotAfter, latest-iff, earliest-iff}
 use Rattle.journeys.proofs.Theorems.{fits-stored}
 use Rattle.rules.specs.Limits.{maxAnimals}
@@ -23,10 +23,10 @@ use Rattle.rules.specs.declared.Refusal.{Refusal}
 use Rattle.rules.specs.Answers.{unless}
 use Rattle.rules.specs.Folds.{flat, allBelow, sumBelow, countBelow}
 use Rattle.rules.specs.Layout.{animals, cellsOf}
-use Rattle.rules.specs.Questions.{window, reaches, reachAnswer, earliestAnswer, latestAnswer, connects, connectedAnswer, isReached, setWord, setWords, reachedRefusal, reachedAnswer, reachedWords, reachedCount}
+use Rattle.rules.specs.Questions.{reaches, reachAnswer, earliestAnswer, latestAnswer, connects, connectedAnswer, isReached, setWord, setWords, reachedRefusal, reachedAnswer, reachedWords, reachedCount}
 use Rattle.rules.specs.Fresh.{Fresh}
 use Rattle.rules.specs.Orders.{Sorted}
-use Rattle.rules.specs.Fitting.{IsWindow, IsPair, Fits}
+use Rattle.rules.specs.Windows.{window, IsWindow, IsPair, Fits}
 use Rattle.rules.specs.Demand2.{Earliest, Latest, AllFit, ReachedFrom, BitSet}
 use Rattle.rules.proofs.Folds.{all-below, below-all, flat-member, member-flat}
 use Rattle.rules.proofs.Sorted.{sorted-flat, sorted-one, member-one}
@@ -34,10 +34,36 @@ use Rattle.rules.proofs.Fresh.{fresh-animals, fresh-cells}
 use Rattle.rules.proofs.Bits.{sum-bit}
 use Rattle.rules.proofs.Asked.{yes-iff, no-iff, at-iff, nothing-iff, reach-asked, moment-asked, connected-asked, reached-asked}
 
--- A test that is some fact, as an equation.
-outcome-iff : {P Q : Type 0} {b : Bool} → (Q → P → ⊥) → Outcome P Q b → (b ≡ true) ↔ P
-outcome-iff x (holds p) = (λ e. p, λ q. refl)
-outcome-iff x (fails q) = (λ e. absurd (let z : _≡_ {A = ℕ} 0 1 = ap (λ (t : Bool). cond t 1 0) e in omega arith), λ p. absurd (x q p))
+-- ---- the first of some ticks, in either direction of time
+
+-- The tick is there and comes at or before t, in the direction of time R.
+abbrev pub Comes : (ℕ → ℕ → Type 0) → ℕ → Option ℕ → Type 0
+Comes R t none = ⊥
+Comes R t (some s) = R s t
+
+module _ (R : ℕ → ℕ → Type 0) (itself : (t : ℕ) → R t t) (same : (s t : ℕ) → R s t → R t s → s ≡ t) (P : ℕ → Type 0) (o : Option ℕ)
+    (g : (t : ℕ) → Comes R t o ↔ ((s : ℕ) × P s × R s t)) where
+  -- It is the first of the ticks in P.
+  first-some : (e : ℕ) → (o ≡ some e) ↔ (P e × ((t : ℕ) → P t → R e t))
+  first-some e = go o g
+    where
+      go : (o : Option ℕ) → ((t : ℕ) → Comes R t o ↔ ((s : ℕ) × P s × R s t)) → (o ≡ some e) ↔ (P e × ((t : ℕ) → P t → R e t))
+      go none g = (λ q. never cc, λ h. absurd (g e .1 (e, h .0, itself e)))
+      go (some d) g = (λ q. subst (λ m. P m × ((t : ℕ) → P t → R m t)) (let r : d ≡ e = cc in r) found, λ h. ap some (same d e (before e (h .0)) (h .1 d (found .0))))
+        where
+          before : (t : ℕ) → P t → R d t
+          before t m = g t .1 (t, m, itself t)
+
+          found : P d × ((t : ℕ) → P t → R d t)
+          found = let w = g d .0 (itself d) in (subst P (same (w .0) d (w .2) (before (w .0) (w .1))) (w .1), before)
+
+  -- There is none exactly when P has no tick.
+  first-none : (o ≡ none) ↔ ((t : ℕ) → ¬ P t)
+  first-none = go o g
+    where
+      go : (o : Option ℕ) → ((t : ℕ) → Comes R t o ↔ ((s : ℕ) × P s × R s t)) → (o ≡ none) ↔ ((t : ℕ) → ¬ P t)
+      go none g = (λ q t m. g t .1 (t, m, itself t), λ h. refl)
+      go (some d) g = (λ q. never cc, λ h. absurd (let w = g d .0 (itself d) in h (w .0) (w .1)))
 
 module _ {n τ δ : ℕ} {S : Contacts} {T : List ℕ} (f : Fresh n τ δ S T) where
   -- ---- stored intervals
@@ -49,13 +75,10 @@ module _ {n τ δ : ℕ} {S : Contacts} {T : List ℕ} (f : Fresh n τ δ S T) w
   stored u v p i = rw (cell-is u v p) (f .minimal .cells u v (p .apart) .exact i)
 
   -- An interval is covered exactly when a journey lies inside it.
-  covered-iff : (u v : ℕ) → IsPair n u v → (a b : ℕ) → Covers (interval a b) (cellsOf T u v) ↔ Fits S δ u v a b
-  covered-iff u v p a b =
-      let t = fits-stored δ S (f .cells) (f .minimal) u v a b (p .apart) in
-      rw (cell-is u v p) (
-        λ c. let w = t .1 (covers-find c) in record { taken = w .0; journey = w .1; departs = w .2 .0; arrives = w .2 .1 },
-        λ h. let w = t .0 (h .taken, h .journey, (h .departs, h .arrives)) in member-covers (w .1) (w .2),
-      )
+  covered-iff : (u v : ℕ) → IsPair n u v → (i : Interval) → Covers i (cellsOf T u v) ↔ ((j : Interval) × Journey S δ u v j × Inside j i)
+  covered-iff u v p i =
+      let t = fits-stored δ S (f .cells) (f .minimal) u v (i .departure) (i .arrival) (p .apart) in
+      rw (cell-is u v p) (λ c. t .1 (covers-find c), λ h. let w = t .0 h in member-covers (w .1) (w .2))
 
   -- ---- reach
 
@@ -63,8 +86,8 @@ module _ {n τ δ : ℕ} {S : Contacts} {T : List ℕ} (f : Fresh n τ δ S T) w
   unfolding reaches
   reaches-iff u v p first last =
       let e = outcome-iff (λ m c. m c) (hasInside-outcome (window first last) (cellsOf T u v)) in
-      let c = covered-iff u v p first last in
-      (λ h. c .0 (e .0 h), λ h. e .1 (c .1 h))
+      let c = covered-iff u v p (window first last) in
+      (λ h. let w = c .0 (e .0 h) in record { taken = w .0; journey = w .1; fits = w .2 }, λ h. e .1 (c .1 (h .taken, h .journey, h .fits)))
 
   pub reach-yes : (u v first last : ℕ) → IsPair n u v → IsWindow τ δ first last → (reachAnswer T u v first last ≡ Yes) ↔ Fits S δ u v first last
   unfolding reachAnswer
@@ -81,94 +104,88 @@ module _ {n τ δ : ℕ} {S : Contacts} {T : List ℕ} (f : Fresh n τ δ S T) w
   -- ---- earliest arrival
 
   module _ (u v : ℕ) (p : IsPair n u v) (first : ℕ) where
-    pub earliest-some : (o : Option ℕ) → ((b : ℕ) → NotAfter b o ↔ Fits S δ u v first b) → (e : ℕ) → (o ≡ some e) ↔ Earliest S δ u v first e
-    earliest-some none g e = (λ q. absurd (let z : _≡_ {A = ℕ} 0 1 = cc in omega arith), λ h. absurd (g e .1 (record { taken = interval (h .departure) e; journey = h .journey; departs = h .departs; arrives = le-refl e })))
-    earliest-some (some d) g e = (λ q. subst (Earliest S δ u v first) (let r : d ≡ e = cc in r) found, λ h. ap some (same h))
+    -- A journey that departs at or after first arrives at b.
+    abbrev Arrival : ℕ → Type 0
+    Arrival b = (d : ℕ) × Journey S δ u v (interval d b) × (first ≤ d)
+
+    arrival-comes : (b : ℕ) → Comes _≤_ b (earliestArrival (cellsOf T u v) first) ↔ ((e : ℕ) × Arrival e × (e ≤ b))
+    arrival-comes b =
+        let e = comes-is (earliestArrival (cellsOf T u v) first) in
+        let c = covered-iff u v p (interval first b) in
+        let i = earliest-iff first b (cellsOf T u v) in
+        (λ h. let w = c .0 (i .0 (e .0 h)) in (w .0 .arrival, (w .0 .departure, w .1, w .2 .0), w .2 .1), λ h. e .1 (i .1 (c .1 (interval (h .1 .0) (h .0), h .1 .1, (h .1 .2, h .2)))))
       where
-        w : Fits S δ u v first d
-        w = g d .0 (le-refl d)
+        comes-is : (o : Option ℕ) → Comes _≤_ b o ↔ NotAfter b o
+        comes-is none = (λ h. h, λ h. h)
+        comes-is (some d) = (λ h. h, λ h. h)
 
-        least : (i : Interval) → Journey S δ u v i → first ≤ i .departure → d ≤ i .arrival
-        least i j h = g (i .arrival) .1 (record { taken = i; journey = j; departs = h; arrives = le-refl (i .arrival) })
+    pub earliest-some : (e : ℕ) → (earliestArrival (cellsOf T u v) first ≡ some e) ↔ Earliest S δ u v first e
+    earliest-some e =
+        let g = first-some _≤_ le-refl (λ s t h k. omega arith) Arrival (earliestArrival (cellsOf T u v) first) arrival-comes e in (
+          λ q. let r = g .0 q in record { departure = r .0 .0; journey = r .0 .1; departs = r .0 .2; least = λ i j h. r .1 (i .arrival) (i .departure, j, h) },
+          λ h. g .1 ((h .departure, h .journey, h .departs), λ t a. h .least (interval (a .0) t) (a .1) (a .2)),
+        )
 
-        found : Earliest S δ u v first d
-        found =
-            let i = w .taken in
-            let e : i .arrival ≡ d = omega (arith, w .arrives, least i (w .journey) (w .departs)) in
-            record { departure = i .departure; journey = subst (λ b. Journey S δ u v (interval (i .departure) b)) e (w .journey); departs = w .departs; least = least }
-
-        same : Earliest S δ u v first e → d ≡ e
-        same h = omega (arith, least (interval (h .departure) e) (h .journey) (h .departs), h .least (w .taken) (w .journey) (w .departs), w .arrives)
-
-    earliest-nothing : (o : Option ℕ) → ((b : ℕ) → NotAfter b o ↔ Fits S δ u v first b) → (o ≡ none) ↔ ((i : Interval) → Journey S δ u v i → ¬ (first ≤ i .departure))
-    earliest-nothing none g = (λ q i j h. g (i .arrival) .1 (record { taken = i; journey = j; departs = h; arrives = le-refl (i .arrival) }), λ h. refl)
-    earliest-nothing (some d) g =
-        (λ q. absurd (let z : _≡_ {A = ℕ} 0 1 = cc in omega arith), λ h. absurd (let w = g d .0 (le-refl d) in h (w .taken) (w .journey) (w .departs)))
-
-    pub earliest-fits : (b : ℕ) → NotAfter b (earliestArrival (cellsOf T u v) first) ↔ Fits S δ u v first b
-    earliest-fits b =
-        let e = earliest-iff first b (cellsOf T u v) in
-        let c = covered-iff u v p first b in
-        (λ h. c .0 (e .0 h), λ h. e .1 (c .1 h))
+    pub earliest-nothing : (earliestArrival (cellsOf T u v) first ≡ none) ↔ ((i : Interval) → Journey S δ u v i → ¬ (first ≤ i .departure))
+    earliest-nothing =
+        let g = first-none _≤_ le-refl (λ s t h k. omega arith) Arrival (earliestArrival (cellsOf T u v) first) arrival-comes in
+        (λ q i j h. g .0 q (i .arrival) (i .departure, j, h), λ h. g .1 (λ t a. h (interval (a .0) t) (a .1) (a .2)))
 
     module _ (h : 1 ≤ first) (k : first ≤ τ + δ) where
       pub earliest-at : (e : ℕ) → (earliestAnswer T u v first ≡ At e) ↔ Earliest S δ u v first e
       unfolding earliestAnswer
       earliest-at e =
-          rw (moment-asked f u v first p h k)
-          (let a = at-iff (earliestArrival (cellsOf T u v) first) e in let b = earliest-some (earliestArrival (cellsOf T u v) first) earliest-fits e in (λ q. b .0 (a .0 q), λ q. a .1 (b .1 q)))
+          rw (moment-asked f u v first p h k) (let a = at-iff (earliestArrival (cellsOf T u v) first) e in let b = earliest-some e in (λ q. b .0 (a .0 q), λ q. a .1 (b .1 q)))
 
       pub earliest-none : (earliestAnswer T u v first ≡ Nothing) ↔ ((i : Interval) → Journey S δ u v i → ¬ (first ≤ i .departure))
       unfolding earliestAnswer
       earliest-none =
-          rw (moment-asked f u v first p h k)
-          (let a = nothing-iff (earliestArrival (cellsOf T u v) first) in let b = earliest-nothing (earliestArrival (cellsOf T u v) first) earliest-fits in (λ q. b .0 (a .0 q), λ q. a .1 (b .1 q)))
+          rw (moment-asked f u v first p h k) (let a = nothing-iff (earliestArrival (cellsOf T u v) first) in let b = earliest-nothing in (λ q. b .0 (a .0 q), λ q. a .1 (b .1 q)))
 
   -- ---- latest departure
 
   module _ (u v : ℕ) (p : IsPair n u v) (last : ℕ) where
-    pub latest-some : (o : Option ℕ) → ((a : ℕ) → NotBefore a o ↔ Fits S δ u v a last) → (d : ℕ) → (o ≡ some d) ↔ Latest S δ u v last d
-    latest-some none g d = (λ q. absurd (let z : _≡_ {A = ℕ} 0 1 = cc in omega arith), λ h. absurd (g d .1 (record { taken = interval d (h .arrival); journey = h .journey; departs = le-refl d; arrives = h .arrives })))
-    latest-some (some e) g d = (λ q. subst (Latest S δ u v last) (let r : e ≡ d = cc in r) found, λ h. ap some (same h))
+    -- A journey that arrives by last departs at d.
+    abbrev Departure : ℕ → Type 0
+    Departure d = (b : ℕ) × Journey S δ u v (interval d b) × (b ≤ last)
+
+    -- The order of time turned round.
+    abbrev Back : ℕ → ℕ → Type 0
+    Back s t = t ≤ s
+
+    departure-comes : (a : ℕ) → Comes Back a (latestDeparture (cellsOf T u v) last) ↔ ((d : ℕ) × Departure d × Back d a)
+    departure-comes a =
+        let e = comes-is (latestDeparture (cellsOf T u v) last) in
+        let c = covered-iff u v p (interval a last) in
+        let i = latest-iff a last (cellsOf T u v) in
+        (λ h. let w = c .0 (i .0 (e .0 h)) in (w .0 .departure, (w .0 .arrival, w .1, w .2 .1), w .2 .0), λ h. e .1 (i .1 (c .1 (interval (h .0) (h .1 .0), h .1 .1, (h .2, h .1 .2)))))
       where
-        w : Fits S δ u v e last
-        w = g e .0 (le-refl e)
+        comes-is : (o : Option ℕ) → Comes Back a o ↔ NotBefore a o
+        comes-is none = (λ h. h, λ h. h)
+        comes-is (some d) = (λ h. h, λ h. h)
 
-        greatest : (i : Interval) → Journey S δ u v i → i .arrival ≤ last → i .departure ≤ e
-        greatest i j h = g (i .departure) .1 (record { taken = i; journey = j; departs = le-refl (i .departure); arrives = h })
+    pub latest-some : (d : ℕ) → (latestDeparture (cellsOf T u v) last ≡ some d) ↔ Latest S δ u v last d
+    latest-some d =
+        let g = first-some Back le-refl (λ s t h k. omega arith) Departure (latestDeparture (cellsOf T u v) last) departure-comes d in (
+          λ q. let r = g .0 q in record { arrival = r .0 .0; journey = r .0 .1; arrives = r .0 .2; greatest = λ i j h. r .1 (i .departure) (i .arrival, j, h) },
+          λ h. g .1 ((h .arrival, h .journey, h .arrives), λ t a. h .greatest (interval t (a .0)) (a .1) (a .2)),
+        )
 
-        found : Latest S δ u v last e
-        found =
-            let i = w .taken in
-            let q : i .departure ≡ e = omega (arith, w .departs, greatest i (w .journey) (w .arrives)) in
-            record { arrival = i .arrival; journey = subst (λ a. Journey S δ u v (interval a (i .arrival))) q (w .journey); arrives = w .arrives; greatest = greatest }
-
-        same : Latest S δ u v last d → e ≡ d
-        same h = omega (arith, greatest (interval d (h .arrival)) (h .journey) (h .arrives), h .greatest (w .taken) (w .journey) (w .arrives), w .departs)
-
-    latest-nothing : (o : Option ℕ) → ((a : ℕ) → NotBefore a o ↔ Fits S δ u v a last) → (o ≡ none) ↔ ((i : Interval) → Journey S δ u v i → ¬ (i .arrival ≤ last))
-    latest-nothing none g = (λ q i j h. g (i .departure) .1 (record { taken = i; journey = j; departs = le-refl (i .departure); arrives = h }), λ h. refl)
-    latest-nothing (some e) g =
-        (λ q. absurd (let z : _≡_ {A = ℕ} 0 1 = cc in omega arith), λ h. absurd (let w = g e .0 (le-refl e) in h (w .taken) (w .journey) (w .arrives)))
-
-    pub latest-fits : (a : ℕ) → NotBefore a (latestDeparture (cellsOf T u v) last) ↔ Fits S δ u v a last
-    latest-fits a =
-        let e = latest-iff a last (cellsOf T u v) in
-        let c = covered-iff u v p a last in
-        (λ h. c .0 (e .0 h), λ h. e .1 (c .1 h))
+    pub latest-nothing : (latestDeparture (cellsOf T u v) last ≡ none) ↔ ((i : Interval) → Journey S δ u v i → ¬ (i .arrival ≤ last))
+    latest-nothing =
+        let g = first-none Back le-refl (λ s t h k. omega arith) Departure (latestDeparture (cellsOf T u v) last) departure-comes in
+        (λ q i j h. g .0 q (i .departure) (i .arrival, j, h), λ h. g .1 (λ t a. h (interval t (a .0)) (a .1) (a .2)))
 
     module _ (h : 1 ≤ last) (k : last ≤ τ + δ) where
       pub latest-at : (d : ℕ) → (latestAnswer T u v last ≡ At d) ↔ Latest S δ u v last d
       unfolding latestAnswer
       latest-at d =
-          rw (moment-asked f u v last p h k)
-          (let a = at-iff (latestDeparture (cellsOf T u v) last) d in let b = latest-some (latestDeparture (cellsOf T u v) last) latest-fits d in (λ q. b .0 (a .0 q), λ q. a .1 (b .1 q)))
+          rw (moment-asked f u v last p h k) (let a = at-iff (latestDeparture (cellsOf T u v) last) d in let b = latest-some d in (λ q. b .0 (a .0 q), λ q. a .1 (b .1 q)))
 
       pub latest-none : (latestAnswer T u v last ≡ Nothing) ↔ ((i : Interval) → Journey S δ u v i → ¬ (i .arrival ≤ last))
       unfolding latestAnswer
       latest-none =
-          rw (moment-asked f u v last p h k)
-          (let a = nothing-iff (latestDeparture (cellsOf T u v) last) in let b = latest-nothing (latestDeparture (cellsOf T u v) last) latest-fits in (λ q. b .0 (a .0 q), λ q. a .1 (b .1 q)))
+          rw (moment-asked f u v last p h k) (let a = nothing-iff (latestDeparture (cellsOf T u v) last) in let b = latest-nothing in (λ q. b .0 (a .0 q), λ q. a .1 (b .1 q)))
 
   -- ---- connected
 
@@ -206,9 +223,6 @@ module _ {n τ δ : ℕ} {S : Contacts} {T : List ℕ} (f : Fresh n τ δ S T) w
     unfolding isReached
     reached-iff i = rw (fresh-animals f) (go (lt-outcome i n) (eq-outcome u i))
       where
-        untrue : {A : Type 0} → false ≡ true → A
-        untrue e = absurd (let z : _≡_ {A = ℕ} 0 1 = ap (λ (t : Bool). cond t 1 0) e in omega arith)
-
         go : {a b : Bool} → Outcome (i < n) (n ≤ i) a → Outcome (u ≡ i) (u ≢ i) b → ((a && not b && reaches T u i first last) ≡ true) ↔ ReachedFrom S δ n u first last i
         go (fails l) o = (λ q. untrue q, λ r. absurd (omega (arith, r .below)))
         go (holds l) (holds e) = (λ q. untrue q, λ r. absurd (r .other e))

@@ -9,6 +9,7 @@ use native.Mathlib.Omega.{arith}
 use lib.Dec.{ltb, leb, eqb}
 use borrow.Author.Tests.{lt-ltb, le-leb, ne-eqb}
 use Rattle.journeys.specs.Journey.{Contacts}
+use Rattle.journeys.proofs.Tests.{never, untrue}
 use Rattle.rules.specs.declared.Refusal.{Refusal}
 use Rattle.rules.specs.declared.Refusal.the-variants.{NotOpen, NotWellFormed, NoSuchAnimal, SameAnimal, TickOutOfRange}
 use Rattle.rules.specs.declared.AskAnswer.the-variants.{Yes, No}
@@ -18,9 +19,9 @@ use Rattle.rules.specs.Folds.{within}
 use Rattle.rules.specs.Layout.{animals, ticks, carry}
 use Rattle.rules.specs.Checks.{isOpen, wellFormed, ensureTable, ValidTable}
 use Rattle.rules.specs.Adding.{ensurePair}
-use Rattle.rules.specs.Questions.{lastArrival, windowInRange, inOrder, ensureWindow, ensureMoment, ensureAnimal, reachRefusal, momentRefusal, connectedRefusal, reachedRefusal}
+use Rattle.rules.specs.Questions.{ensureAnimal, reachRefusal, momentRefusal, connectedRefusal, reachedRefusal}
 use Rattle.rules.specs.Fresh.{Fresh}
-use Rattle.rules.specs.Fitting.{IsWindow, IsPair}
+use Rattle.rules.specs.Windows.{lastArrival, windowInRange, inOrder, ensureWindow, ensureMoment, IsWindow, IsPair}
 use Rattle.rules.proofs.Folds.{and-intro}
 use Rattle.rules.proofs.Judged.{ensure-iff, within-iff}
 use Rattle.rules.proofs.Fresh.{fresh-passes, fresh-animals, fresh-ticks, fresh-carry}
@@ -29,19 +30,19 @@ use Rattle.rules.proofs.Fresh.{fresh-passes, fresh-animals, fresh-ticks
 
 pub yes-iff : (b : Bool) → (askAnswerOf none b ≡ Yes) ↔ (b ≡ true)
 yes-iff true = (λ e. refl, λ e. refl)
-yes-iff false = (λ e. absurd (let z : _≡_ {A = ℕ} 0 1 = cc in omega arith), λ e. absurd (let z : _≡_ {A = ℕ} 0 1 = ap (λ (t : Bool). cond t 1 0) e in omega arith))
+yes-iff false = (λ e. never cc, λ e. untrue e)
 
 pub no-iff : (b : Bool) → (askAnswerOf none b ≡ No) ↔ (¬ (b ≡ true))
-no-iff true = (λ e. absurd (let z : _≡_ {A = ℕ} 0 1 = cc in omega arith), λ e. absurd (e refl))
-no-iff false = (λ e q. (let z : _≡_ {A = ℕ} 0 1 = ap (λ (t : Bool). cond t 1 0) q in omega arith), λ e. refl)
+no-iff true = (λ e. never cc, λ e. absurd (e refl))
+no-iff false = (λ e q. untrue q, λ e. refl)
 
 pub at-iff : (o : Option ℕ) (t : ℕ) → (tickAnswerOf none o ≡ At t) ↔ (o ≡ some t)
-at-iff none t = (λ e. absurd (let z : _≡_ {A = ℕ} 0 1 = cc in omega arith), λ e. absurd (let z : _≡_ {A = ℕ} 0 1 = cc in omega arith))
+at-iff none t = (λ e. never cc, λ e. never cc)
 at-iff (some s) t = (λ e. let q : s ≡ t = cc in ap some q, λ e. let q : s ≡ t = cc in ap At q)
 
 pub nothing-iff : (o : Option ℕ) → (tickAnswerOf none o ≡ Nothing) ↔ (o ≡ none)
 nothing-iff none = (λ e. refl, λ e. refl)
-nothing-iff (some s) = (λ e. absurd (let z : _≡_ {A = ℕ} 0 1 = cc in omega arith), λ e. absurd (let z : _≡_ {A = ℕ} 0 1 = cc in omega arith))
+nothing-iff (some s) = (λ e. never cc, λ e. never cc)
 
 -- ---- checks that pass on a fresh table
 

@@ -9,12 +9,13 @@ use native.Mathlib.Nat.{le-refl}
 use native.Mathlib.Omega.{arith}
 use native.Mathlib.Decide.{ℕ-discrete, decLe}
 use lib.ListN.{length}
-use Rattle.journeys.specs.Journey.{Contact, contact, Contacts, Interval, interval, Inside, JourneyTo, single, onward as further, Journey, Minimal}
+use Rattle.journeys.specs.Journey.{Contact, contact, Contacts, Interval, interval, Inside, JourneyTo, single, onward, Journey, Minimal}
+use Rattle.journeys.proofs.Tests.{never}
 use Rattle.journeys.proofs.Reach.{journey-carries}
 use Rattle.journeys.proofs.Cover.{departure-path, arrival-path}
 use Rattle.rules.specs.Layout.{animals, cellsOf}
-use Rattle.rules.specs.Chains.{Lead, nowhere, there, onward, leads, Lowest, nobody, animal, lowest, prepend, follow, chainFrom}
-use Rattle.rules.specs.ChainRule.{Onward, Candidate, LowestCandidate, LatestOnward, IsChain, last, next}
+use Rattle.rules.specs.Chains.{Lead, nowhere, there, leadsOn, leads, Lowest, nobody, animal, lowest, prepend, follow, chainFrom}
+use Rattle.rules.specs.ChainRule.{StillHad, Candidate, LowestCandidate, LatestLeaving, IsChain, last, next}
 use Rattle.rules.specs.NamedChains.{Distinct, leavers}
 use Rattle.rules.specs.Claims.{contactsOf}
 use Rattle.rules.specs.Fresh.{Fresh}
@@ -28,7 +29,7 @@ module _ {S : Contacts} {δ goal b : ℕ} where
   lowest-unique : {x d z y : ℕ} → LowestCandidate S δ goal b x d z → LowestCandidate S δ goal b x d y → z ≡ y
   lowest-unique {x} {d} {z} {y} p q = omega (arith, p .lowest y (q .is), q .lowest z (p .is))
 
-  latest-unique : {z a e g : ℕ} → LatestOnward S δ goal b z a e → LatestOnward S δ goal b z a g → e ≡ g
+  latest-unique : {z a e g : ℕ} → LatestLeaving S δ goal b z a e → LatestLeaving S δ goal b z a g → e ≡ g
   latest-unique {z} {a} {e} {g} p q = omega (arith, p .latest g (q .leaves) (q .journey), q .latest e (p .leaves) (p .journey))
 
   -- The rule names one chain.
@@ -42,7 +43,7 @@ module _ {S : Contacts} {δ goal b : ℕ} where
       same-animal = lowest-unique r p
 
       same-departure : g ≡ e
-      same-departure = latest-unique (subst (λ w. LatestOnward S δ goal b w (d + δ) g) same-animal s) q
+      same-departure = latest-unique (subst (λ w. LatestLeaving S δ goal b w (d + δ) g) same-animal s) q
 
       go : (IsChain S δ goal b z e m → l ≡ m) → contact x z d ∷ l ≡ contact x y d ∷ m
       go rest = λ i. contact x (sym same-animal i) d ∷ rest (subst (λ w. IsChain S δ goal b w e m) same-animal (subst (λ w. IsChain S δ goal b y w m) same-departure h)) i
@@ -51,7 +52,7 @@ module _ {S : Contacts} {δ goal b : ℕ} where
 
 module _ {n τ δ : ℕ} {S : Contacts} {T : List ℕ} (f : Fresh n τ δ S T) (goal b : ℕ) (hg : goal < n) where
   none-is : {A : Type 0} {l : List Contact} → none ≡ some l → A
-  none-is e = absurd (let q : _≡_ {A = ℕ} 0 1 = cc in omega arith)
+  none-is e = never cc
 
   some-is : {l m : List Contact} → some l ≡ some m → l ≡ m
   some-is e = cc
@@ -91,9 +92,9 @@ module _ {n τ δ : ℕ} {S : Contacts} {T : List ℕ} (f : Fresh n τ δ S T) (
       where
         go : JourneyTo S δ goal b x d → (y : ℕ) × Candidate S δ goal b x d y
         go (single s e) = (goal, record { contact-held = s; had = inl (refl, e) })
-        go (further z q s h j) = (z, record { contact-held = s; had = pick (ℕ-discrete z goal) })
+        go (onward z q s h j) = (z, record { contact-held = s; had = pick (ℕ-discrete z goal) })
           where
-            pick : Dec (z ≡ goal) → ((z ≡ goal) × (d + δ ≡ b)) ⊎ ((z ≢ goal) × Onward S δ goal b z (d + δ))
+            pick : Dec (z ≡ goal) → ((z ≡ goal) × (d + δ ≡ b)) ⊎ ((z ≢ goal) × StillHad S δ goal b z (d + δ))
             pick (yes e) =
                 let k = journey-carries j in
                 inl (e, arrival-path (minimal .least (interval d (d + δ)) (single (subst (λ w. S (contact x w d)) e s) refl) (le-refl d, omega arith)))
@@ -106,7 +107,7 @@ module _ {n τ δ : ℕ} {S : Contacts} {T : List ℕ} (f : Fresh n τ δ S T) (
   chain-sound zero x d l hx m e = none-is e
   chain-sound (suc most) x d l hx m e = go (lowest-of (leads T goal b x d) (animals T)) (λ z g k h q. chain-sound most z g k h q) e
     where
-      onwards : (z g : ℕ) → LowestCandidate S δ goal b x d z → z ≢ goal → LatestOnward S δ goal b z (d + δ) g → (o : Option (List Contact)) → ((k : List Contact) → o ≡ some k → IsChain S δ goal b z g k)
+      onwards : (z g : ℕ) → LowestCandidate S δ goal b x d z → z ≢ goal → LatestLeaving S δ goal b z (d + δ) g → (o : Option (List Contact)) → ((k : List Contact) → o ≡ some k → IsChain S δ goal b z g k)
           → prepend (contact x z d) o ≡ some l → IsChain S δ goal b x d l
       onwards z g p k r none h q = none-is q
       onwards z g p k r (some w) h q = subst (IsChain S δ goal b x d) (some-is q) (next z g p k r (h w refl))
@@ -118,7 +119,7 @@ module _ {n τ δ : ℕ} {S : Contacts} {T : List ℕ} (f : Fresh n τ δ S T) (
       step z there hz p k r (arrived s g a) rest q =
           subst (IsChain S δ goal b x d) (ap (λ w. contact x w d ∷ []) (sym g) ∙ some-is q)
           (last (subst (LowestCandidate S δ goal b x d) g (lowest-candidate x d hx m z (record { contact-held = s; had = inl (g, a) }) r)) a)
-      step z (onward g) hz p k r (going s o late small) rest q =
+      step z (leadsOn g) hz p k r (going s o late small) rest q =
           onwards z g
           (lowest-candidate x d hx m z (record { contact-held = s; had = inr (o, record { departure = g; leaves = late .leaves; journey = late .journey }) }) r)
           o late (chainFrom T goal b most z g) (λ w e. rest z g w hz small e) q
@@ -169,7 +170,7 @@ module _ {n τ δ : ℕ} {S : Contacts} {T : List ℕ} (f : Fresh n τ δ S T) (
       step : (z : ℕ) (w : Lead) → z < n → w ≢ nowhere → Leads x d hx m z w → Rest → (l : List Contact) × (follow x d (animal z w) (chainFrom T goal b most) ≡ some l)
       step z nowhere hz q t rest = absurd (q refl)
       step z there hz q t rest = (contact x z d ∷ [], refl)
-      step z (onward e) hz q (going s o late small) rest =
+      step z (leadsOn e) hz q (going s o late small) rest =
           let r = rest z e hz o small (different z e o (late .leaves) small) (visited e (late .leaves)) in
           (contact x z d ∷ r .0, ap (prepend (contact x z d)) (r .1))
 
@@ -190,11 +191,11 @@ module _ (S : Contacts) (δ goal b : ℕ) (positive : 1 ≤ δ) where
     pub minimal : Minimal S δ y goal (interval left b)
 
   -- The interval of the next animal is minimal too.
-  next-minimal : (x d z e : ℕ) → Minimal S δ x goal (interval d b) → S (contact x z d) → LatestOnward S δ goal b z (d + δ) e → Minimal S δ z goal (interval e b)
+  next-minimal : (x d z e : ℕ) → Minimal S δ x goal (interval d b) → S (contact x z d) → LatestLeaving S δ goal b z (d + δ) e → Minimal S δ z goal (interval e b)
   next-minimal x d z e m s late = record { journey = late .journey; least = λ i j h. (λ k. record { departure = same-departure i j h k; arrival = same-arrival i j h k }) }
     where
       same-arrival : (i : Interval) → Journey S δ z goal i → Inside i (interval e b) → i .arrival ≡ b
-      same-arrival i j h = arrival-path (m .least (interval d (i .arrival)) (further z (i .departure) s (omega (arith, late .leaves)) j) (le-refl d, h .1))
+      same-arrival i j h = arrival-path (m .least (interval d (i .arrival)) (onward z (i .departure) s (omega (arith, late .leaves)) j) (le-refl d, h .1))
 
       same-departure : (i : Interval) → Journey S δ z goal i → Inside i (interval e b) → i .departure ≡ e
       same-departure i j h =
@@ -234,7 +235,7 @@ module _ (S : Contacts) (δ goal b : ℕ) (positive : 1 ≤ δ) where
 -- The contacts of a chain are those of a journey.
 pub chain-journey : {S : Contacts} {δ goal b x d : ℕ} {l : List Contact} → IsChain S δ goal b x d l → (j : JourneyTo S δ goal b x d) × (contactsOf j ≡ l)
 chain-journey (last p e) = (single (p .is .contact-held) e, refl)
-chain-journey {x = x} {d = d} (next z e p g late c) = let r = chain-journey c in (further z e (p .is .contact-held) (late .leaves) (r .0), ap (λ l. contact x z d ∷ l) (r .1))
+chain-journey {x = x} {d = d} (next z e p g late c) = let r = chain-journey c in (onward z e (p .is .contact-held) (late .leaves) (r .0), ap (λ l. contact x z d ∷ l) (r .1))
 
 -- Every animal of a chain is one of the set's contacts.
 pub chain-below : {S : Contacts} {δ goal b x d : ℕ} {l : List Contact} (n : ℕ) → ((k : Contact) → S k → k .from < n) → IsChain S δ goal b x d l → (y : ℕ) → List·Memᴰ y (leavers l) → y < n

@@ -4,12 +4,14 @@ use mathlib.Core.Logic.{_↔_, _⊎_, inl, inr, ⊎-elim, _≢_}
 use mathlib.Core.Bool.{Bool, true, false, cond, _&&_}
 use mathlib.Core.Option.{Option, none, some}
 use mathlib.Core.List.{List, [], _∷_, map}
-use Prim.Native.Nat.{ℕ, zero, suc, _+_, _≤_, _<_}
+use Prim.Native.Nat.{ℕ, _+_, _≤_, _<_}
 use native.Mathlib.Nat.{le-refl}
 use native.Mathlib.Omega.{arith}
+use lib.ListN.{getD}
 use lib.Dec.{leb, ltb, eqb}
 use borrow.Author.Tests.{eqb-true, eq-eqb, leb-true, le-leb, ltb-true, lt-ltb}
 use Rattle.journeys.specs.Journey.{Contact, contact, Contacts, Interval, interval, JourneyTo, single, onward, Journey}
+use Rattle.journeys.proofs.Tests.{untrue, never, outcome-iff, inside-outcome}
 use Rattle.words.specs.Layout.{isOf}
 use Rattle.words.specs.Words.{contactLayout, contactOf, contactWord}
 use Rattle.words.proofs.Packed.{contactOf-word, contactWord-is, contactWord-of}
@@ -17,9 +19,9 @@ use Rattle.rules.specs.declared.AskAnswer.the-variants.{Yes, No}
 use Rattle.rules.specs.Layout.{animals, carry}
 use Rattle.rules.specs.Adding.{Legal}
 use Rattle.rules.specs.Adding as Adding
-use Rattle.rules.specs.Claims.{heldWord, leavesFrom, spells, claimedAnswer, contactsOf, SpellsJourney, ClaimsJudged}
+use Rattle.rules.specs.Claims.{heldWord, leavesFrom, formJourney, lastWord, intervalFormed, spells, claimedAnswer, contactsOf, SpellsJourney, ClaimsJudged}
 use Rattle.rules.specs.Fresh.{Fresh}
-use Rattle.rules.specs.Fitting.{IsWindow, IsPair}
+use Rattle.rules.specs.Windows.{window, FitsWindow, fitsWindow, IsWindow, IsPair}
 use Rattle.rules.proofs.Folds.{and-left, and-right, and-intro}
 use Rattle.rules.proofs.Fresh.{fresh-animals, fresh-carry}
 use Rattle.rules.proofs.Held.{fresh-holds}
@@ -65,97 +67,116 @@ module _ {n τ δ : ℕ} {S : Contacts} {T : List ℕ} (f : Fresh n τ δ S T) w
   leaves-is : (x a : ℕ) (k : Contact) → leavesFrom x a k ≡ true → (k .from ≡ x) × (a ≤ k .tick)
   leaves-is x a k e = (eqb-true (k .from) x (and-left (eqb (k .from) x) (leb a (k .tick)) e), leb-true a (k .tick) (and-right (eqb (k .from) x) (leb a (k .tick)) e))
 
-  spelled : (v last x a : ℕ) (ws : List ℕ) → spells T v last x a ws ≡ true → SpellsJourney S δ x v a last ws
-  unfolding spells
-  spelled v last x a [] e = absurd (let z : _≡_ {A = ℕ} 0 1 = ap (λ (b : Bool). cond b 1 0) e in omega arith)
-  spelled v last x a (w ∷ []) e =
+  -- What the words form: a journey from x to v with the interval that they say, leaving at or after a.
+  Forms : ℕ → ℕ → ℕ → List ℕ → Type 0
+  Forms v x a ws = (j : Journey S δ x v (intervalFormed T ws)) × (a ≤ intervalFormed T ws .departure) × (ws ≡ map contactWord (contactsOf j))
+
+  formed : (v x a : ℕ) (ws : List ℕ) → formJourney T v x a ws ≡ true → Forms v x a ws
+  unfolding formJourney Forms
+  formed v x a [] e = untrue e
+  formed v x a (w ∷ []) e =
       let k = contactOf w in
       let b₁ = heldWord T w in
       let b₂ = b₁ && leavesFrom x a k in
-      let b₃ = b₂ && eqb (k .to) v in
-      let e₃ = and-left b₃ (leb (k .tick + carry T) last) e in
-      let e₂ = and-left b₂ (eqb (k .to) v) e₃ in
+      let e₂ = and-left b₂ (eqb (k .to) v) e in
       let h = held-contact w (and-left b₁ (leavesFrom x a k) e₂) in
       let l = leaves-is x a k (and-right b₁ (leavesFrom x a k) e₂) in
-      let q : k ≡ contact x v (k .tick) = λ i. record { from = l .0 i; to = eqb-true (k .to) v (and-right b₂ (eqb (k .to) v) e₃) i; tick = k .tick } in
-      record {
-        taken = interval (k .tick) (k .tick + δ);
-        journey = single (subst S q (h .0)) refl;
-        departs = l .1;
-        arrives = subst (λ m. k .tick + m ≤ last) (fresh-carry f) (leb-true (k .tick + carry T) last (and-right b₃ (leb (k .tick + carry T) last) e));
-        words = ap (λ m. m ∷ []) (sym (h .1) ∙ ap contactWord q);
-      }
-  spelled v last x a (w ∷ y ∷ ws) e = go (spelled v last (k .to) (k .tick + carry T) (y ∷ ws) (and-right (heldWord T w && leavesFrom x a k) (spells T v last (k .to) (k .tick + carry T) (y ∷ ws)) e))
+      let q : k ≡ contact x v (k .tick) = λ i. record { from = l .0 i; to = eqb-true (k .to) v (and-right b₂ (eqb (k .to) v) e) i; tick = k .tick } in
+      (single (subst S q (h .0)) (ap (λ m. k .tick + m) (sym (fresh-carry f))), l .1, ap (λ m. m ∷ []) (sym (h .1) ∙ ap contactWord q))
+  formed v x a (w ∷ y ∷ ws) e =
+      go (formed v (contactOf w .to) (contactOf w .tick + carry T) (y ∷ ws) (and-right (heldWord T w && leavesFrom x a (contactOf w)) (formJourney T v (contactOf w .to) (contactOf w .tick + carry T) (y ∷ ws)) e))
     where
       k : Contact
       k = contactOf w
 
       e₂ : (heldWord T w && leavesFrom x a k) ≡ true
-      e₂ = and-left (heldWord T w && leavesFrom x a k) (spells T v last (k .to) (k .tick + carry T) (y ∷ ws)) e
+      e₂ = and-left (heldWord T w && leavesFrom x a k) (formJourney T v (k .to) (k .tick + carry T) (y ∷ ws)) e
 
-      go : SpellsJourney S δ (k .to) v (k .tick + carry T) last (y ∷ ws) → SpellsJourney S δ x v a last (w ∷ y ∷ ws)
+      go : Forms v (k .to) (k .tick + carry T) (y ∷ ws) → Forms v x a (w ∷ y ∷ ws)
       go r =
           let h = held-contact w (and-left (heldWord T w) (leavesFrom x a k) e₂) in
           let l = leaves-is x a k (and-right (heldWord T w) (leavesFrom x a k) e₂) in
           let q : k ≡ contact x (k .to) (k .tick) = λ i. record { from = l .0 i; to = k .to; tick = k .tick } in
-          let d : k .tick + δ ≤ r .taken .departure = subst (λ m. k .tick + m ≤ r .taken .departure) (fresh-carry f) (r .departs) in
-          record {
-            taken = interval (k .tick) (r .taken .arrival);
-            journey = onward (k .to) (r .taken .departure) (subst S q (h .0)) d (r .journey);
-            departs = l .1;
-            arrives = r .arrives;
-            words = ap₂ _∷_ (sym (h .1) ∙ ap contactWord q) (r .words);
-          }
+          let d : k .tick + δ ≤ contactOf y .tick = subst (λ m. k .tick + m ≤ contactOf y .tick) (fresh-carry f) (r .1) in
+          (onward (k .to) (contactOf y .tick) (subst S q (h .0)) d (r .0), l .1, ap₂ _∷_ (sym (h .1) ∙ ap contactWord q) (r .2))
 
   -- ---- from journeys to words
 
-  spells-one : (v last x a t : ℕ) → S (contact x v t) → a ≤ t → t + δ ≤ last → spells T v last x a (contactWord (contact x v t) ∷ []) ≡ true
-  unfolding spells
-  spells-one v last x a t s h k =
+  forms-one : (v x a t : ℕ) → S (contact x v t) → a ≤ t → formJourney T v x a (contactWord (contact x v t) ∷ []) ≡ true
+  unfolding formJourney
+  forms-one v x a t s h =
       let r = sym (read (contact x v t) s) in
       and-intro _ _
-      (and-intro _ _
       (and-intro _ _ (word-held (contact x v t) s) (subst (λ c. leavesFrom x a c ≡ true) r (and-intro _ _ (eq-eqb x x refl) (le-leb a t h))))
-      (subst (λ c. eqb (c .to) v ≡ true) r (eq-eqb v v refl)))
-      (subst (λ c. leb (c .tick + carry T) last ≡ true) r (le-leb (t + carry T) last (subst (λ m. t + m ≤ last) (sym (fresh-carry f)) k)))
+      (subst (λ c. eqb (c .to) v ≡ true) r (eq-eqb v v refl))
 
-  spells-more : (v last x a z t y : ℕ) (ws : List ℕ) → S (contact x z t) → a ≤ t → spells T v last z (t + carry T) (y ∷ ws) ≡ true → spells T v last x a (contactWord (contact x z t) ∷ y ∷ ws) ≡ true
-  unfolding spells
-  spells-more v last x a z t y ws s h e =
+  -- The words of a journey begin with that of its first contact.
+  forms-more : (v x a z t : ℕ) (l : List ℕ) → S (contact x z t) → a ≤ t → formJourney T v z (t + carry T) l ≡ true → formJourney T v x a (contactWord (contact x z t) ∷ l) ≡ true
+  unfolding formJourney
+  forms-more v x a z t [] s h e = untrue e
+  forms-more v x a z t (y ∷ ws) s h e =
       let r = sym (read (contact x z t) s) in
       and-intro _ _
       (and-intro _ _ (word-held (contact x z t) s) (subst (λ c. leavesFrom x a c ≡ true) r (and-intro _ _ (eq-eqb x x refl) (le-leb a t h))))
-      (subst (λ c. spells T v last (c .to) (c .tick + carry T) (y ∷ ws) ≡ true) r e)
+      (subst (λ c. formJourney T v (c .to) (c .tick + carry T) (y ∷ ws) ≡ true) r e)
 
-  -- The words of a journey begin with that of its first contact.
-  spells-list : (v last x a z t : ℕ) (l : List ℕ) → S (contact x z t) → a ≤ t → spells T v last z (t + carry T) l ≡ true → spells T v last x a (contactWord (contact x z t) ∷ l) ≡ true
-  unfolding spells
-  spells-list v last x a z t [] s h e = absurd (let q : _≡_ {A = ℕ} 0 1 = ap (λ (b : Bool). cond b 1 0) e in omega arith)
-  spells-list v last x a z t (y ∷ ws) s h e = spells-more v last x a z t y ws s h e
+  forming : {v b x t : ℕ} (a : ℕ) (j : JourneyTo S δ v b x t) → a ≤ t → formJourney T v x a (map contactWord (contactsOf j)) ≡ true
+  forming {v} a (single {x} {a = t} s e) h = forms-one v x a t s h
+  forming {v} a (onward {x} {a = t} z q s g j) h =
+      forms-more v x a z t (map contactWord (contactsOf j)) s h (forming (t + carry T) j (subst (λ m. t + m ≤ q) (sym (fresh-carry f)) g))
 
-  spelling : (v last : ℕ) {b x t : ℕ} (a : ℕ) (j : JourneyTo S δ v b x t) → a ≤ t → b ≤ last → spells T v last x a (map contactWord (contactsOf j)) ≡ true
-  spelling v last {b} a (single {x} {a = t} s e) h k = spells-one v last x a t s h (omega arith)
-  spelling v last {b} a (onward {x} {a = t} z q s g j) h k =
-      spells-list v last x a z t (map contactWord (contactsOf j)) s h (spelling v last (t + carry T) j (subst (λ m. t + m ≤ q) (sym (fresh-carry f)) g) k)
+  -- The last of words is that of the words behind the first, if there are any.
+  last-behind : (w : ℕ) (l : List ℕ) → l ≢ [] → lastWord (w ∷ l) ≡ lastWord l
+  last-behind w [] n = absurd (n refl)
+  last-behind w (z ∷ l) n = refl
 
-  spells-iff : (u v first last : ℕ) (ws : List ℕ) → (spells T v last u first ws ≡ true) ↔ SpellsJourney S δ u v first last ws
-  spells-iff u v first last ws = (
-    spelled v last u first ws,
-    λ r. subst (λ l. spells T v last u first l ≡ true) (sym (r .words)) (spelling v last first (r .journey) (r .departs) (r .arrives)),
-  )
+  some-contacts : {v b x t : ℕ} (j : JourneyTo S δ v b x t) → map contactWord (contactsOf j) ≢ []
+  some-contacts (single s e) q = never cc
+  some-contacts (onward z t s g j) q = never cc
+
+  first-tick : {v b x t : ℕ} (j : JourneyTo S δ v b x t) → contactOf (getD (map contactWord (contactsOf j)) 0 0) .tick ≡ t
+  first-tick {v} (single {x} {a = t} s e) = ap (λ k. k .tick) (read (contact x v t) s)
+  first-tick (onward {x} {a = t} z q s g j) = ap (λ k. k .tick) (read (contact x z t) s)
+
+  last-arrival : {v b x t : ℕ} (j : JourneyTo S δ v b x t) → contactOf (lastWord (map contactWord (contactsOf j))) .tick + carry T ≡ b
+  last-arrival {v} (single {x} {a = t} s e) = ap₂ _+_ (ap (λ k. k .tick) (read (contact x v t) s)) (fresh-carry f) ∙ e
+  last-arrival (onward {x} {a = t} z q s g j) =
+      ap (λ w. contactOf w .tick + carry T) (last-behind (contactWord (contact x z t)) (map contactWord (contactsOf j)) (some-contacts j)) ∙ last-arrival j
+
+  -- ---- both ways
+
+  spells-iff : (u v first last : ℕ) (ws : List ℕ) → (spells T u v first last ws ≡ true) ↔ SpellsJourney S δ u v first last ws
+  unfolding spells Forms
+  spells-iff u v first last ws = (to, of)
+    where
+      fits-iff : (i : Interval) → (fitsWindow i first last ≡ true) ↔ FitsWindow i first last
+      fits-iff i = outcome-iff (λ o h. ⊎-elim (λ k. omega arith) (λ k. omega arith) o) (inside-outcome i (window first last))
+
+      to : (formJourney T v u 0 ws && fitsWindow (intervalFormed T ws) first last) ≡ true → SpellsJourney S δ u v first last ws
+      to e =
+          let r = formed v u 0 ws (and-left (formJourney T v u 0 ws) (fitsWindow (intervalFormed T ws) first last) e) in
+          let h = fits-iff (intervalFormed T ws) .0 (and-right (formJourney T v u 0 ws) (fitsWindow (intervalFormed T ws) first last) e) in
+          record { spelled = record { taken = intervalFormed T ws; journey = r .0; fits = h }; words = r .2 }
+
+      of : SpellsJourney S δ u v first last ws → (formJourney T v u 0 ws && fitsWindow (intervalFormed T ws) first last) ≡ true
+      of r =
+          let j = r .spelled .journey in
+          let i : intervalFormed T (map contactWord (contactsOf j)) ≡ r .spelled .taken = λ k. record { departure = first-tick j k; arrival = last-arrival j k } in
+          subst (λ l. (formJourney T v u 0 l && fitsWindow (intervalFormed T l) first last) ≡ true) (sym (r .words))
+          (and-intro _ _ (forming 0 j (omega arith)) (fits-iff _ .1 (subst (λ i. FitsWindow i first last) (sym i) (r .spelled .fits))))
 
   module _ (u v first last : ℕ) (p : IsPair n u v) (w : IsWindow τ δ first last) (ws : List ℕ) where
     yes-when : (claimedAnswer T u v first last ws ≡ Yes) ↔ SpellsJourney S δ u v first last ws
     unfolding claimedAnswer
     yes-when =
         rw (reach-asked f u v first last p w)
-        (let e = yes-iff (spells T v last u first ws) in let c = spells-iff u v first last ws in (λ h. c .0 (e .0 h), λ h. e .1 (c .1 h)))
+        (let e = yes-iff (spells T u v first last ws) in let c = spells-iff u v first last ws in (λ h. c .0 (e .0 h), λ h. e .1 (c .1 h)))
 
     no-when : (claimedAnswer T u v first last ws ≡ No) ↔ (¬ SpellsJourney S δ u v first last ws)
     unfolding claimedAnswer
     no-when =
         rw (reach-asked f u v first last p w)
-        (let e = no-iff (spells T v last u first ws) in let c = spells-iff u v first last ws in (λ h k. e .0 h (c .1 k), λ h. e .1 (λ k. h (c .0 k))))
+        (let e = no-iff (spells T u v first last ws) in let c = spells-iff u v first last ws in (λ h k. e .0 h (c .1 k), λ h. e .1 (λ k. h (c .0 k))))
 
 pub claims-judged : ClaimsJudged
 claims-judged = record { yes-when = λ n τ δ S T f. yes-when f; no-when = λ n τ δ S T f. no-when f }

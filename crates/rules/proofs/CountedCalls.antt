@@ -17,7 +17,7 @@ use Rattle.rules.specs.Adding.{Legal, addRefusal, addAnswer, addLeaves}
 use Rattle.rules.specs.Logs.{heldContacts}
 use Rattle.rules.specs.Fresh.{Fresh}
 use Rattle.rules.specs.CallLists.{LegalOf}
-use Rattle.rules.specs.Counting.{tallySum, hasRoom, raised}
+use Rattle.rules.specs.Counting.{fullTally, tallySum, hasRoom, raised}
 use Rattle.rules.specs.CountedCalls.{TallyAndTable, countedCall, runCounted, counted, zeroTally, CountedCalls, AllCountedCalls}
 use Rattle.rules.proofs.Judged.{none-some}
 use Rattle.rules.proofs.Counted.{counted-cases}
@@ -35,7 +35,7 @@ abbrev raisedCall : TallyAndTable → Contact → TallyAndTable
 raisedCall s k = record { tally = raised (addAnswer (s .table) k) (s .tally); table = addLeaves (s .table) k }
 
 -- By cases: the tally is full and all stays as it was, or it has room and the call is counted.
-call-cases : (s : TallyAndTable) (k : Contact) (P : Bool → TallyAndTable → Type 0) → (4294967295 ≤ tallySum (s .tally) → P false s) → (tallySum (s .tally) < 4294967295 → P true (raisedCall s k))
+call-cases : (s : TallyAndTable) (k : Contact) (P : Bool → TallyAndTable → Type 0) → (fullTally ≤ tallySum (s .tally) → P false s) → (tallySum (s .tally) < fullTally → P true (raisedCall s k))
     → P (hasRoom (s .tally)) (countedCall s k)
 call-cases s k P = counted-cases (s .tally) (s .table) k (λ b a L t. P b (record { tally = t; table = L }))
 
@@ -57,7 +57,7 @@ run-sum (k ∷ A) s =
     (λ h. omega (arith, run-sum A (raisedCall s k), raised-sum (addAnswer (s .table) k) (s .tally)))
 
 -- All calls are counted while the sum leaves room for them.
-run-all : (A : List Contact) (s : TallyAndTable) → tallySum (s .tally) + length A ≤ 4294967295 → counted s A ≡ A
+run-all : (A : List Contact) (s : TallyAndTable) → tallySum (s .tally) + length A ≤ fullTally → counted s A ≡ A
 unfolding counted
 run-all [] s h = refl
 run-all (k ∷ A) s h =

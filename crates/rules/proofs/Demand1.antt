@@ -9,9 +9,10 @@ use native.Mathlib.Omega.{arith}
 use lib.ListN.{length, getD, drop, length-append, length-map, length-drop, replicate}
 use lib.Dec.{leb, ltb, eqb}
 use borrow.Author.Tests.{leb-true}
-use Rattle.journeys.specs.Journey.{Contact, contact}
+use Rattle.journeys.specs.Journey.{Contact, contact, interval}
 use Rattle.journeys.specs.Cell.{latestDeparture, earliestArrival}
 use Rattle.journeys.specs.Adding.{Cells, add}
+use Rattle.journeys.proofs.Tests.{never}
 use Rattle.rules.specs.declared.Refusal.{Refusal}
 use Rattle.rules.specs.declared.OpenAnswer.{OpenAnswer}
 use Rattle.rules.specs.declared.OpenAnswer.the-variants.{Opened, Refused as OpenRefused}
@@ -36,9 +37,10 @@ use Rattle.rules.specs.Fresh.{Fresh}
 use Rattle.rules.specs.CallLists.{LegalOf}
 use Rattle.rules.specs.Reading.{loggedContacts, readRefusal, different, readAnswer, readLeaves}
 use Rattle.rules.specs.Folds.{countBelow, within}
-use Rattle.rules.specs.Questions.{windowInRange, inOrder, setAnswerOf, isReached, setWords, reachedRefusal, reachedAnswer, reachedWords, reachedCount}
-use Rattle.rules.specs.Chains.{nowhere, there, onward, leads, Lowest, nobody, animal, lowest, prepend, follow, chainFrom, fromDeparture, withArrival, chainOf, chainRefusal, chainAnswerOf, chainAnswer, chainWords, chainLeaves}
-use Rattle.rules.specs.Counting.{tallySum, countedAnswer, countedLeaves, raised, countedTally}
+use Rattle.rules.specs.Windows.{fitsWindow, windowInRange, inOrder}
+use Rattle.rules.specs.Questions.{setAnswerOf, isReached, setWords, reachedRefusal, reachedAnswer, reachedWords, reachedCount}
+use Rattle.rules.specs.Chains.{nowhere, there, leadsOn, leads, Lowest, nobody, animal, lowest, prepend, follow, chainFrom, withTick, chainOf, chainRefusal, chainAnswerOf, chainAnswer, chainWords, chainLeaves}
+use Rattle.rules.specs.Counting.{fullTally, tallySum, countedAnswer, countedLeaves, raised, countedTally}
 use Rattle.rules.specs.QuestionList.{asked, listRefusal, listAnswerOf, listAnswer, listLeaves}
 use Rattle.rules.specs.Demand1.{Demand1}
 use Rattle.rules.proofs.Decode.{table-length, table-passes}
@@ -57,11 +59,11 @@ open-cases n τ δ T P a b = unless-cases (openRefusal n τ δ T) P (λ r e. a r
 
 open-opened : (o : Option Refusal) → openAnswerOf o ≡ Opened → o ≡ none
 open-opened none e = refl
-open-opened (some r) e = absurd (let z : _≡_ {A = ℕ} 0 1 = cc in omega arith)
+open-opened (some r) e = never cc
 
 open-kept : (n τ δ : ℕ) (T : List ℕ) (r : Refusal) → openAnswer n τ δ T ≡ OpenRefused r → openLeaves n τ δ T ≡ T
 unfolding openAnswer
-open-kept n τ δ T r = open-cases n τ δ T (λ o L. openAnswerOf o ≡ OpenRefused r → L ≡ T) (λ s e. refl) (λ p e. absurd (let z : _≡_ {A = ℕ} 0 1 = cc in omega arith))
+open-kept n τ δ T r = open-cases n τ δ T (λ o L. openAnswerOf o ≡ OpenRefused r → L ≡ T) (λ s e. refl) (λ p e. never cc)
 
 open-length : (n τ δ : ℕ) (T : List ℕ) → length (openLeaves n τ δ T) ≡ length T
 open-length n τ δ T =
@@ -71,7 +73,7 @@ open-length n τ δ T =
 open-valid : (n τ δ : ℕ) (T : List ℕ) → openAnswer n τ δ T ≡ Opened → ValidTable (openLeaves n τ δ T)
 unfolding openAnswer
 open-valid n τ δ T =
-    open-cases n τ δ T (λ o L. openAnswerOf o ≡ Opened → ValidTable L) (λ r e. absurd (let z : _≡_ {A = ℕ} 0 1 = cc in omega arith))
+    open-cases n τ δ T (λ o L. openAnswerOf o ≡ Opened → ValidTable L) (λ r e. never cc)
     (λ p e. table-passes n τ δ (open-iff n τ δ T .0 p .0) (λ u v. []) (empty-good n τ δ))
 
 -- ---- adding
@@ -88,8 +90,8 @@ unfolding addedCells
 added-good T k e = let h = add-iff T k .0 e in add-good (animals T) (ticks T) (carry T) (cellsOf T) k (h .1) (passes-good T (h .0))
 
 known-or-new : (b : Bool) (m : ℕ) (r : Refusal) → cond b (Known m) (New m) ≡ AddRefused r → ⊥
-known-or-new true m r e = let z : _≡_ {A = ℕ} 0 1 = cc in omega arith
-known-or-new false m r e = let z : _≡_ {A = ℕ} 0 1 = cc in omega arith
+known-or-new true m r e = never cc
+known-or-new false m r e = never cc
 
 add-accepted : (T : List ℕ) (k : Contact) (r : Refusal) → addAnswer T k ≡ AddRefused r → addRefusal T k ≡ none → ⊥
 unfolding addAnswer
@@ -153,10 +155,10 @@ add-not-full T k = go (addRefusal T k) (add-up-to-nine T k)
     go (some r) h e = let q : r ≡ TallyFull = cc in let z : numberOf r ≡ 16 = ap numberOf q in omega arith
 
 -- 16 is answered exactly when the tally is full.
-counted-full : (t : Tally) (T : List ℕ) (k : Contact) → (countedAnswer t T k ≡ AddRefused TallyFull) ↔ (4294967295 ≤ t .new + t .known + t .refused)
+counted-full : (t : Tally) (T : List ℕ) (k : Contact) → (countedAnswer t T k ≡ AddRefused TallyFull) ↔ (fullTally ≤ t .new + t .known + t .refused)
 unfolding tallySum
 counted-full t T k =
-    counted-cases t T k (λ b a L s. (a ≡ AddRefused TallyFull) ↔ (4294967295 ≤ t .new + t .known + t .refused)) (λ h. (λ e. omega arith, λ q. refl))
+    counted-cases t T k (λ b a L s. (a ≡ AddRefused TallyFull) ↔ (fullTally ≤ t .new + t .known + t .refused)) (λ h. (λ e. omega arith, λ q. refl))
     (λ h. (λ e. absurd (add-not-full T k e), λ q. absurd (omega arith)))
 
 -- A full tally stays as it was.
@@ -175,7 +177,7 @@ unfolding listAnswer listLeaves
 list-kept T l r = go (listRefusal T)
   where
     go : (o : Option Refusal) → listAnswerOf o (length l) ≡ ListRefused r → unless o (map (asked T) l) l ≡ l
-    go none e = absurd (let z : _≡_ {A = ℕ} 0 1 = cc in omega arith)
+    go none e = never cc
     go (some s) e = refl
 
 -- A list keeps its length.
@@ -196,7 +198,7 @@ write-cases T B P a b = unless-cases (writeRefusal T B) P (λ r e. a r) b
 
 write-kept : (T B : List ℕ) (r : Refusal) → writeAnswer T B ≡ WriteRefused r → writeLeaves T B ≡ B
 unfolding writeAnswer
-write-kept T B r = write-cases T B (λ o L. writeAnswerOf o (Written (length (heldContacts T) + 2)) ≡ WriteRefused r → L ≡ B) (λ s e. refl) (λ p e. absurd (let z : _≡_ {A = ℕ} 0 1 = cc in omega arith))
+write-kept T B r = write-cases T B (λ o L. writeAnswerOf o (Written (length (heldContacts T) + 2)) ≡ WriteRefused r → L ≡ B) (λ s e. refl) (λ p e. never cc)
 
 -- A log that is written fits its buffer.
 pub write-fits : (T B : List ℕ) → writeRefusal T B ≡ none → ValidTable T × (length (heldContacts T) + 2 ≤ length B)
@@ -229,7 +231,7 @@ read-kept : (L T : List ℕ) (r : Refusal) → readAnswer L T ≡ ReadRefused r 
 unfolding readAnswer
 read-kept L T r =
     read-cases L T (λ o U. readAnswerOf o (Read (different (loggedContacts L))) ≡ ReadRefused r → U ≡ T) (λ s e. refl)
-    (λ h U f e. absurd (let z : _≡_ {A = ℕ} 0 1 = cc in omega arith))
+    (λ h U f e. never cc)
 
 read-length : (L T : List ℕ) → length (readLeaves L T) ≡ length T
 read-length L T = read-cases L T (λ o U. length U ≡ length T) (λ r. refl) (λ h U f. fresh-length f ∙ sym (h .fits))
@@ -238,7 +240,7 @@ read-valid : (L T : List ℕ) (k : ℕ) → readAnswer L T ≡ Read k → ValidT
 unfolding readAnswer
 read-valid L T k =
     read-cases L T (λ o U. readAnswerOf o (Read (different (loggedContacts L))) ≡ Read k → ValidTable U)
-    (λ r e. absurd (let z : _≡_ {A = ℕ} 0 1 = cc in omega arith)) (λ h U f e. fresh-passes f)
+    (λ r e. never cc) (λ h U f e. fresh-passes f)
 
 -- ---- the animals reached
 
@@ -248,7 +250,7 @@ unfolding reachedAnswer reachedWords reachedCount
 reached-empty T u first last r = go (reachedRefusal T u first last)
   where
     go : (o : Option Refusal) → setAnswerOf o ≡ SetRefused r → (unless o (setWords T u first last) (replicate 8 0) ≡ replicate 8 0) × (unless o (countBelow (isReached T u first last) (animals T)) 0 ≡ 0)
-    go none e = absurd (let z : _≡_ {A = ℕ} 0 1 = cc in omega arith)
+    go none e = never cc
     go (some s) e = (refl, refl)
 
 -- ---- the chain
@@ -271,24 +273,25 @@ chain-short T goal b (suc most) x d = go (lowest (leads T goal b x d) (animals T
     go nobody h = omega arith
     go (animal z nowhere) h = omega arith
     go (animal z there) h = omega arith
-    go (animal z (onward e)) h = behind (contact x z d) (chainFrom T goal b most z e) (h z e)
+    go (animal z (leadsOn e)) h = behind (contact x z d) (chainFrom T goal b most z e) (h z e)
 
 -- A chain has at most n−1 contacts.
 chain-fits : (T : List ℕ) (u v first last : ℕ) → size (chainOf T u v first last) ≤ animals T - 1
 unfolding chainOf
 chain-fits T u v first last = arriving (earliestArrival (cellsOf T u v) first)
   where
-    leaving : (b : ℕ) (o : Option ℕ) → size (fromDeparture o (λ d. chainFrom T v b (animals T - 1) u d)) ≤ animals T - 1
+    fitting : (b d : ℕ) (t : Bool) → size (cond t (chainFrom T v b (animals T - 1) u d) none) ≤ animals T - 1
+    fitting b d true = chain-short T v b (animals T - 1) u d
+    fitting b d false = omega arith
+
+    leaving : (b : ℕ) (o : Option ℕ) → size (withTick o (λ d. cond (fitsWindow (interval d b) first last) (chainFrom T v b (animals T - 1) u d) none)) ≤ animals T - 1
     leaving b none = omega arith
-    leaving b (some d) = chain-short T v b (animals T - 1) u d
+    leaving b (some d) = fitting b d (fitsWindow (interval d b) first last)
 
-    by-last : (t : Bool) (o : Option (List Contact)) → size o ≤ animals T - 1 → size (cond t o none) ≤ animals T - 1
-    by-last true o h = h
-    by-last false o h = omega arith
-
-    arriving : (o : Option ℕ) → size (withArrival o last (λ b. fromDeparture (latestDeparture (cellsOf T u v) b) (λ d. chainFrom T v b (animals T - 1) u d))) ≤ animals T - 1
+    arriving : (o : Option ℕ)
+        → size (withTick o (λ b. withTick (latestDeparture (cellsOf T u v) b) (λ d. cond (fitsWindow (interval d b) first last) (chainFrom T v b (animals T - 1) u d) none))) ≤ animals T - 1
     arriving none = omega arith
-    arriving (some b) = by-last (leb b last) _ (leaving b (latestDeparture (cellsOf T u v) b))
+    arriving (some b) = leaving b (latestDeparture (cellsOf T u v) b)
 
 chain-kept : (T : List ℕ) (u v first last : ℕ) (B : List ℕ) (r : Refusal) → chainAnswer T u v first last B ≡ ChainRefused r → chainLeaves T u v first last B ≡ B
 unfolding chainAnswer chainLeaves
@@ -296,7 +299,7 @@ chain-kept T u v first last B r = go (chainRefusal T u v first last B) (chainOf 
   where
     go : (o : Option Refusal) (c : Option (List Contact)) → chainAnswerOf o c ≡ ChainRefused r → unless o (chainWords c B) B ≡ B
     go none none e = refl
-    go none (some l) e = absurd (let z : _≡_ {A = ℕ} 0 1 = cc in omega arith)
+    go none (some l) e = never cc
     go (some s) c e = refl
 
 -- A chain that is shown has room in its buffer.

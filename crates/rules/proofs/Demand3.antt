@@ -13,7 +13,7 @@ use borrow.Author.Tests.{le-leb}
 use Rattle.journeys.specs.Journey.{Contact, Contacts, With, Same, Interval, Minimal, interval}
 use Rattle.journeys.specs.Cell.{Cell}
 use Rattle.journeys.specs.Adding.{Cells, add}
-use Rattle.journeys.proofs.Tests.{Outcome, holds, fails}
+use Rattle.journeys.proofs.Tests.{never, untrue, Outcome, holds, fails}
 use Rattle.journeys.proofs.Closed.{add-same}
 use Rattle.journeys.proofs.Theorems.{contacts-stand, unchanged}
 use Rattle.words.specs.Words.{openingWord}
@@ -82,7 +82,7 @@ module _ (n : ℕ) (T U : Cells) where
       (r .0, go (sameCell-outcome (T x y) (U x y)) (r .1))
     where
       go : {b : Bool} → Outcome (T x y ≡ U x y) (T x y ≢ U x y) b → not b ≡ true → T x y ≢ U x y
-      go (holds e) q = absurd (let z : _≡_ {A = ℕ} 0 1 = ap (λ (b : Bool). cond b 1 0) q in omega arith)
+      go (holds e) q = untrue q
       go (fails d) q = d
 
   -- Where a listed pair stands.
@@ -206,11 +206,11 @@ module _ {n τ δ : ℕ} {S : Contacts} {T : List ℕ} (f : Fresh n τ δ S T) (
 
   known-iff : (b : Bool) (m : ℕ) → (cond b (Known m) (New m) ≡ Known m) ↔ (b ≡ true)
   known-iff true m = (λ e. refl, λ e. refl)
-  known-iff false m = (λ e. absurd (let z : _≡_ {A = ℕ} 0 1 = cc in omega arith), λ e. absurd (let z : _≡_ {A = ℕ} 0 1 = ap (λ (b : Bool). cond b 1 0) e in omega arith))
+  known-iff false m = (λ e. never cc, λ e. untrue e)
 
   new-iff : (b : Bool) (m : ℕ) → (cond b (Known m) (New m) ≡ New m) ↔ (¬ (b ≡ true))
-  new-iff true m = (λ e. absurd (let z : _≡_ {A = ℕ} 0 1 = cc in omega arith), λ e. absurd (e refl))
-  new-iff false m = (λ e q. (let z : _≡_ {A = ℕ} 0 1 = ap (λ (b : Bool). cond b 1 0) q in omega arith), λ e. refl)
+  new-iff true m = (λ e. never cc, λ e. absurd (e refl))
+  new-iff false m = (λ e q. untrue q, λ e. refl)
 
   stands-iff : (Adding.holds T k ≡ true) ↔ S k
   stands-iff = fresh-holds f k (l .from-below) (l .to-below)
@@ -280,7 +280,7 @@ open-none n τ δ words = go (openRefusal n τ δ words)
   where
     go : (o : Option Refusal) → (openAnswerOf o ≡ Opened) ↔ (o ≡ none)
     go none = (λ e. refl, λ e. refl)
-    go (some r) = (λ e. absurd (let z : _≡_ {A = ℕ} 0 1 = cc in omega arith), λ e. none-some (some r) r e refl)
+    go (some r) = (λ e. never cc, λ e. none-some (some r) r e refl)
 
 one-list : (n τ δ : ℕ) (words : List ℕ) (A : List Contact) → openRefusal n τ δ words ≡ none → OneList engine n τ δ words A
 one-list n τ δ words A e =

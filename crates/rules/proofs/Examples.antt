@@ -11,7 +11,7 @@ use borrow.Author.Tests.{eqb-true}
 use Rattle.journeys.specs.Journey.{Contact, contact}
 use Rattle.journeys.specs.Cell.{Cell, later, sooner, latestDeparture, earliestArrival, hasInside, withoutContaining, putInOrder, enter}
 use Rattle.journeys.specs.Adding.{departureOf, arrivalOf, enterBoth, add}
-use Rattle.journeys.proofs.Tests.{Outcome, holds, fails}
+use Rattle.journeys.proofs.Tests.{untrue, Outcome, holds, fails}
 use Rattle.words.specs.Layout.{isOf}
 use Rattle.rules.specs.declared.AskAnswer.{AskAnswer}
 use Rattle.rules.specs.declared.AskAnswer.the-variants.{Yes, No, Refused as AskRefused}
@@ -29,9 +29,6 @@ use Rattle.rules.specs.CallLists.{run}
 use Rattle.rules.specs.Examples.{Row, asks-reach, asks-earliest, asks-latest, asks-chain, asks-cell, Says, ExampleTable, exampleTable, marked, Marked}
 use Rattle.rules.proofs.Folds.{and-left, and-right}
 use Rattle.rules.proofs.Changes.{sameCell-outcome}
-
-untrue : {A : Type 0} → false ≡ true → A
-untrue e = absurd (let z : _≡_ {A = ℕ} 0 1 = ap (λ (b : Bool). cond b 1 0) e in omega arith)
 
 -- ---- the tests
 

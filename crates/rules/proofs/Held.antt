@@ -10,7 +10,7 @@ use native.Mathlib.Omega.{arith}
 use lib.ListN.{length}
 use Rattle.journeys.specs.Journey.{Contact, contact, Contacts, interval}
 use Rattle.journeys.specs.Cell.{Cell}
-use Rattle.journeys.proofs.Tests.{Outcome, holds, fails}
+use Rattle.journeys.proofs.Tests.{untrue, Outcome, holds, fails}
 use Rattle.journeys.proofs.Theorems.{contacts-stand}
 use Rattle.rules.specs.Limits.{maxContacts, maxChain}
 use Rattle.rules.specs.Folds.{flat}
@@ -166,9 +166,6 @@ module _ {n τ δ : ℕ} {S : Contacts} {T : List ℕ} (f : Fresh n τ δ S T) w
   unfolding Adding.holds
   fresh-holds k h j = rw (fresh-carry f, fresh-cells f (k .from) (k .to) h j) (go (ℕ-discrete (k .from) (k .to)) (stands-outcome (interval (k .tick) (k .tick + δ)) (f .cells (k .from) (k .to))))
     where
-      untrue : {A : Type 0} → false ≡ true → A
-      untrue e = absurd (let z : _≡_ {A = ℕ} 0 1 = ap (λ (b : Bool). cond b 1 0) e in omega arith)
-
       go : {b : Bool} → Dec (k .from ≡ k .to) → Outcome (List·Memᴰ (interval (k .tick) (k .tick + δ)) (f .cells (k .from) (k .to))) (¬ List·Memᴰ (interval (k .tick) (k .tick + δ)) (f .cells (k .from) (k .to))) b
           → (b ≡ true) ↔ S k
       go (yes e) (holds m) = absurd (List·Memᴰ·not-nil (subst (λ c. List·Memᴰ (interval (k .tick) (k .tick + δ)) c) (subst (λ v. f .cells (k .from) v ≡ []) e (f .minimal .diagonal (k .from))) m))
@@ -196,3 +193,8 @@ module _ {n τ δ : ℕ} {S : Contacts} {T : List ℕ} (f : Fresh n τ δ S T) w
             to-last = omega (arith, l .to-last, fresh-ticks f);
             stands = fresh-holds k (l .from-below) (l .to-below) .1 s;
           })
+
+-- A table holds a contact where its interval, of which a is the arrival, stands in its cell.
+pub holds-at : (T : List ℕ) (u v t a : ℕ) {r : Bool} → a ≡ t + carry T → r ≡ Adding.stands (interval t a) (cellsOf T u v) → r ≡ Adding.holds T (contact u v t)
+unfolding Adding.holds
+holds-at T u v t a e f = f ∙ ap (λ (i : ℕ). Adding.stands (interval t i) (cellsOf T u v)) e

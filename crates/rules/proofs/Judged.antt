@@ -10,6 +10,7 @@ use lib.ListN.{length}
 use lib.Dec.{ltb, leb, eqb}
 use borrow.Author.Tests.{eq-eqb, ne-eqb, eqb-true, eqb-false, le-leb, leb-true, lt-ltb, ltb-true, not-true}
 use Rattle.journeys.specs.Journey.{Contact}
+use Rattle.journeys.proofs.Tests.{never}
 use Rattle.rules.specs.declared.Refusal.{Refusal}
 use Rattle.rules.specs.declared.Refusal.the-variants.{AnimalsBeyondLimit, TicksBeyondLimit, CarryBeyondLimit, WrongLength, NotOpen, NotWellFormed, NoSuchAnimal, SameAnimal, TickOutOfRange}
 use Rattle.rules.specs.Answers.{ensure, unless}
@@ -24,7 +25,7 @@ use Rattle.rules.proofs.Folds.{and-left, and-right, and-intro}
 -- ---- checks in their order
 
 pub none-some : {A : Type 0} (o : Option Refusal) (r : Refusal) → o ≡ none → o ≡ some r → A
-none-some o r p q = absurd (let z : _≡_ {A = ℕ} 0 1 = cc in omega arith)
+none-some o r p q = never cc
 
 -- Nothing is refused exactly when the first check passes and the rest refuse nothing.
 pub ensure-iff : (b : Bool) (r : Refusal) (o : Option Refusal) → (ensure b r o ≡ none) ↔ ((b ≡ true) × (o ≡ none))

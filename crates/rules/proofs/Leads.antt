@@ -8,15 +8,15 @@ use Prim.Native.Nat.{ℕ, zero, suc, _+_, _≤_, _<_}
 use native.Mathlib.Nat.{le-refl}
 use native.Mathlib.Omega.{arith}
 use lib.Dec.{leb, eqb}
-use Rattle.journeys.specs.Journey.{Contact, contact, Contacts, Interval, interval, Inside, Journey, single, onward as further, Minimal}
+use Rattle.journeys.specs.Journey.{Contact, contact, Contacts, Interval, interval, Inside, Journey, single, onward, Minimal}
 use Rattle.journeys.specs.Cell.{Cell, Rising}
-use Rattle.journeys.proofs.Tests.{Outcome, holds, fails, outcome, eq-outcome, le-outcome, and-outcome}
+use Rattle.journeys.proofs.Tests.{never, untrue, Outcome, holds, fails, outcome, eq-outcome, le-outcome, and-outcome}
 use Rattle.journeys.proofs.Cover.{rising-after, departure-path, arrival-path}
 use Rattle.journeys.proofs.Theorems.{fits-stored}
 use Rattle.rules.specs.Layout.{animals, carry, cellsOf}
 use Rattle.rules.specs.Adding as Adding
-use Rattle.rules.specs.Chains.{departureWith, Lead, nowhere, there, onward, onwardFrom, leads, Lowest, nobody, animal, orElse, lowest}
-use Rattle.rules.specs.ChainRule.{Onward, Candidate, LatestOnward}
+use Rattle.rules.specs.Chains.{departureWith, Lead, nowhere, there, leadsOn, leadFrom, leads, Lowest, nobody, animal, orElse, lowest}
+use Rattle.rules.specs.ChainRule.{StillHad, Candidate, LatestLeaving}
 use Rattle.rules.specs.Fresh.{Fresh}
 use Rattle.rules.proofs.Fresh.{fresh-carry, fresh-cells}
 use Rattle.rules.proofs.Held.{fresh-holds}
@@ -55,7 +55,7 @@ module _ {n τ δ : ℕ} {S : Contacts} {T : List ℕ} (f : Fresh n τ δ S T) (
   module _ (z : ℕ) (hz : z < n) (s : S (contact x z d)) (other : z ≢ goal) where
     -- A journey from z behind the contact that arrives by b arrives just then.
     arrives-then : (i : Interval) → Journey S δ z goal i → d + δ ≤ i .departure → i .arrival ≤ b → i .arrival ≡ b
-    arrives-then i j h k = arrival-path (minimal .least (interval d (i .arrival)) (further z (i .departure) s h j) (le-refl d, k))
+    arrives-then i j h k = arrival-path (minimal .least (interval d (i .arrival)) (onward z (i .departure) s h j) (le-refl d, k))
 
     -- So the cell to the goal has an interval with arrival b wherever a journey leaves no later.
     onward-stored : (p : ℕ) → d + δ ≤ p → Journey S δ z goal (interval p b) → (e : ℕ) × List·Memᴰ (interval e b) (cellsOf T z goal) × (p ≤ e)
@@ -70,7 +70,7 @@ module _ {n τ δ : ℕ} {S : Contacts} {T : List ℕ} (f : Fresh n τ δ S T) (
     pub stored-minimal : (e : ℕ) → List·Memᴰ (interval e b) (cellsOf T z goal) → Minimal S δ z goal (interval e b)
     stored-minimal e m = f .minimal .cells z goal other .exact (interval e b) .0 (subst (λ c. List·Memᴰ (interval e b) c) (fresh-cells f z goal hz hg) m)
 
-    pub stored-latest : (e : ℕ) → List·Memᴰ (interval e b) (cellsOf T z goal) → d + δ ≤ e → LatestOnward S δ goal b z (d + δ) e
+    pub stored-latest : (e : ℕ) → List·Memᴰ (interval e b) (cellsOf T z goal) → d + δ ≤ e → LatestLeaving S δ goal b z (d + δ) e
     stored-latest e m h =
         record {
           leaves = h;
@@ -85,22 +85,19 @@ module _ {n τ δ : ℕ} {S : Contacts} {T : List ℕ} (f : Fresh n τ δ S T) (
   pub data LeadsTo (z : ℕ) : Lead → Type 0 where
     blocked : (¬ Candidate S δ goal b x d z) → LeadsTo z nowhere
     arrived : S (contact x z d) → z ≡ goal → d + δ ≡ b → LeadsTo z there
-    going : {e : ℕ} → S (contact x z d) → z ≢ goal → LatestOnward S δ goal b z (d + δ) e → Minimal S δ z goal (interval e b) → LeadsTo z (onward e)
+    going : {e : ℕ} → S (contact x z d) → z ≢ goal → LatestLeaving S δ goal b z (d + δ) e → Minimal S δ z goal (interval e b) → LeadsTo z (leadsOn e)
 
   pub leads-to : (z : ℕ) → z < n → LeadsTo z (leads T goal b x d z)
   unfolding leads
   leads-to z hz = rw (fresh-carry f) (go (outcome (Adding.holds T (contact x z d)) (fresh-holds f (contact x z d) hx hz .0) (λ e s. untrue (sym e ∙ fresh-holds f (contact x z d) hx hz .1 s))) (eq-outcome z goal) (eq-outcome (d + δ) b))
     where
-      untrue : false ≡ true → ⊥
-      untrue e = let q : _≡_ {A = ℕ} 0 1 = ap (λ (t : Bool). cond t 1 0) e in omega arith
-
-      further-on : S (contact x z d) → z ≢ goal → {o : Option ℕ} → Departing (d + δ) b (cellsOf T z goal) o → LeadsTo z (onwardFrom o)
+      further-on : S (contact x z d) → z ≢ goal → {o : Option ℕ} → Departing (d + δ) b (cellsOf T z goal) o → LeadsTo z (leadFrom o)
       further-on s k (found {d = e} m h) = going s k (stored-latest z hz s k e m h) (stored-minimal z hz s k e m)
       further-on s k (missing g) =
           blocked (λ c. ⊎-elim (λ h. k (h .0)) (λ h. (let o = h .1 in let w = onward-stored z hz s k (o .departure) (o .leaves) (o .journey) in g (w .0) (w .1) (omega (arith, w .2, o .leaves)))) (c .had))
 
       go : {h g a : Bool} → Outcome (S (contact x z d)) (¬ S (contact x z d)) h → Outcome (z ≡ goal) (z ≢ goal) g → Outcome (d + δ ≡ b) (d + δ ≢ b) a
-          → LeadsTo z (cond h (cond g (cond a there nowhere) (onwardFrom (departureWith (d + δ) b (cellsOf T z goal)))) nowhere)
+          → LeadsTo z (cond h (cond g (cond a there nowhere) (leadFrom (departureWith (d + δ) b (cellsOf T z goal)))) nowhere)
       go (fails s) o p = blocked (λ c. s (c .contact-held))
       go (holds s) (holds e) (holds q) = arrived s e q
       go (holds s) (holds e) (fails q) = blocked (λ c. ⊎-elim (λ h. q (h .1)) (λ h. h .0 e) (c .had))
@@ -114,10 +111,10 @@ pub data LowestOf (g : ℕ → Lead) (m : ℕ) : Lowest → Type 0 where
   first-is : {z : ℕ} {l : Lead} → z < m → g z ≡ l → l ≢ nowhere → ((y : ℕ) → y < z → g y ≡ nowhere) → LowestOf g m (animal z l)
 
 not-nowhere-there : there ≢ nowhere
-not-nowhere-there e = let q : _≡_ {A = ℕ} 0 1 = cc in omega arith
+not-nowhere-there e = never cc
 
-not-nowhere-onward : (d : ℕ) → onward d ≢ nowhere
-not-nowhere-onward d e = let q : _≡_ {A = ℕ} 0 1 = cc in omega arith
+not-nowhere-onward : (d : ℕ) → leadsOn d ≢ nowhere
+not-nowhere-onward d e = never cc
 
 pub lowest-of : (g : ℕ → Lead) (m : ℕ) → LowestOf g m (lowest g m)
 unfolding lowest
@@ -135,4 +132,4 @@ lowest-of g (suc m) = go (lowest-of g m) (g m) refl
     go (first-is {z} h e k r) l q = first-is {z = z} (omega arith) e k r
     go (none-below r) nowhere q = none-below (more r q)
     go (none-below r) there q = first-is {z = m} (omega arith) q not-nowhere-there r
-    go (none-below r) (onward d) q = first-is {z = m} (omega arith) q (not-nowhere-onward d) r
+    go (none-below r) (leadsOn d) q = first-is {z = m} (omega arith) q (not-nowhere-onward d) r

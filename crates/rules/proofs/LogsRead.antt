@@ -10,6 +10,7 @@ use lib.ListN.{length, take, drop, replicate, length-replicate}
 use lib.Seq.{take-at}
 use borrow.Author.Tests.{le-ltb, eq-eqb}
 use Rattle.journeys.specs.Journey.{Contact, Contacts, Same, In}
+use Rattle.journeys.proofs.Tests.{never}
 use Rattle.words.specs.Words.{openingWord}
 use Rattle.rules.specs.declared.Refusal.{Refusal}
 use Rattle.rules.specs.declared.ReadAnswer.the-variants.{Read}
@@ -64,7 +65,7 @@ read-accepted L T k = go (readRefusal L T)
   where
     go : (o : Option Refusal) → readAnswerOf o (Read (different (loggedContacts L))) ≡ Read k → o ≡ none
     go none e = refl
-    go (some r) e = absurd (let z : _≡_ {A = ℕ} 0 1 = cc in omega arith)
+    go (some r) e = never cc
 
 -- Exactly the logs are read, into tables of the length for them.
 exactly : (L T : List ℕ) → ((k : ℕ) × (readAnswer L T ≡ Read k)) ↔ ((n : ℕ) × (τ : ℕ) × (δ : ℕ) × (l : List Contact) × IsLog n τ δ l L × (length T ≡ tableLength n τ))
@@ -84,7 +85,7 @@ read-held L T k e = let r = exactly L T .0 (k, e) in number-is k _ (sym e ∙ lo
 
 written-is : (o : Option Refusal) (a b : ℕ) → writeAnswerOf o (Written a) ≡ Written b → (o ≡ none) × (a ≡ b)
 written-is none a b e = (refl, cc)
-written-is (some r) a b e = absurd (let z : _≡_ {A = ℕ} 0 1 = cc in omega arith)
+written-is (some r) a b e = never cc
 
 module _ {n τ δ : ℕ} {S : Contacts} {T : List ℕ} (f : Fresh n τ δ S T) where
   -- The words written from a fresh table are a log of the contacts that it holds.

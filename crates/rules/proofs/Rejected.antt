@@ -9,6 +9,7 @@ use lib.ListN.{length, getD, replicate}
 use Rattle.journeys.specs.Journey.{Contact, contact}
 use Rattle.journeys.specs.Cell.{later, sooner, latestDeparture, earliestArrival, hasInside, withoutContaining, putInOrder, enter}
 use Rattle.journeys.specs.Adding.{departureOf, arrivalOf, enterBoth, add}
+use Rattle.journeys.proofs.Tests.{never}
 use Rattle.words.specs.Layout.{isOf}
 use Rattle.rules.specs.declared.OpenAnswer.{OpenAnswer}
 use Rattle.rules.specs.declared.OpenAnswer.the-variants.{Opened, Refused as OpenRefused}
@@ -88,7 +89,7 @@ rejected =
       always-known = λ d. (let w : _≡_ {A = ℕ} 3 2 = ap told (same-answer alwaysKnown d refl [] (contact 0 1 1) first) in omega arith);
       always-new = λ d. (let w : _≡_ {A = ℕ} 0 1 = ap told (same-answer alwaysNew d refl (contact 0 1 1 ∷ []) (contact 0 1 1) first) in omega arith);
       refuses-adds = λ d. (let w : _≡_ {A = ℕ} 100 2 = ap told (same-answer refusesAdds d refl [] (contact 0 1 1) first) in omega arith);
-      refuses-openings = λ d. (let w : OpenRefused _ ≡ Opened = determined refusesOpenings engine d demand3 .openings 3 2 1 blank .1 refl in let z : _≡_ {A = ℕ} 0 1 = cc in omega arith);
+      refuses-openings = λ d. (let w : OpenRefused _ ≡ Opened = determined refusesOpenings engine d demand3 .openings 3 2 1 blank .1 refl in never cc);
       unsorted-log = λ d. (let w : _≡_ {A = ℕ} 0x4000_0401 0x4000_0400 = same-logged unsortedLog d refl 1 in omega arith);
       repeats-in-log = λ d. (let w : _≡_ {A = ℕ} 0x4000_0400 0xC000_0002 = same-logged repeatsInLog d refl 3 in omega arith);
     }

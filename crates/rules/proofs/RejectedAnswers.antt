@@ -25,7 +25,7 @@ use Rattle.rules.specs.Chains.{departureWith, leads, lowest, chainFrom, 
 use Rattle.rules.specs.Questions.{reaches, reachRefusal, reachAnswer, momentRefusal, earliestAnswer, connects, connectedRefusal, connectedAnswer, isReached, setWord, setWords, reachedRefusal, reachedWords, reachedCount}
 use Rattle.rules.specs.Fresh.{Fresh}
 use Rattle.rules.specs.CallLists.{engine, run, tableAfter, LegalOf}
-use Rattle.rules.specs.Fitting.{IsWindow, IsPair}
+use Rattle.rules.specs.Windows.{IsWindow, IsPair}
 use Rattle.rules.specs.Demand2.{Questions, questions, Demand2, BitSet}
 use Rattle.rules.specs.WrongAnswers.{alwaysNo, alwaysYes, endsLater, beginsLater, neverArrives, alwaysConnected, reachesNobody, countsNobody, firstOf, chainFromOf, downFrom, neverChained, highestAnimal, loadingOrder, RejectedAnswers}
 use Rattle.rules.proofs.Runs.{run-fresh}

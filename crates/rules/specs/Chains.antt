@@ -5,7 +5,7 @@ use mathlib.Core.Option.{Option, none, some}
 use mathlib.Core.List.{List, [], _∷_, _++_, map}
 use lib.ListN.{length, drop}
 use lib.Dec.{leb, eqb}
-use Rattle.journeys.specs.Journey.{Contact, contact, Interval}
+use Rattle.journeys.specs.Journey.{Contact, contact, Interval, interval}
 use Rattle.journeys.specs.Cell.{Cell, latestDeparture, earliestArrival}
 use Rattle.words.specs.Words.{contactWord}
 use Rattle.rules.specs.declared.Refusal.{Refusal}
@@ -16,9 +16,9 @@ use Rattle.rules.specs.Answers.{ensure, unless}
 use Rattle.rules.specs.Layout.{animals, carry, cellsOf}
 use Rattle.rules.specs.Checks.{ensureTable}
 use Rattle.rules.specs.Adding.{ensurePair, holds}
-use Rattle.rules.specs.Questions.{ensureWindow}
+use Rattle.rules.specs.Windows.{fitsWindow, ensureWindow}
 
--- The departure of an interval of the cell with arrival b that departs at or after a, if any.
+-- The departure of an interval of the cell with arrival b that departs at or after a, if any; a stands before b.
 unfoldable pub departureWith : ℕ → ℕ → Cell → Option ℕ
 departureWith a b [] = none
 departureWith a b (i ∷ c) = cond (eqb (i .arrival) b && leb a (i .departure)) (some (i .departure)) (departureWith a b c)
@@ -27,19 +27,20 @@ departureWith a b (i ∷ c) = cond (eqb (i .arrival) b && leb a (i .departure)) 
 pub data Lead : Type 0 where
   nowhere : Lead
   there : Lead
-  onward : ℕ → Lead
+  leadsOn : ℕ → Lead
 
-abbrev pub onwardFrom : Option ℕ → Lead
-onwardFrom none = nowhere
-onwardFrom (some d) = onward d
+-- On at the departure, if there is one.
+abbrev pub leadFrom : Option ℕ → Lead
+leadFrom none = nowhere
+leadFrom (some d) = leadsOn d
 
 -- Where the contact (x, z, d) leads, if the table holds it: the arrival b can still be had from z when its cell to the
 -- goal has an interval with that arrival, departing at or after this contact's arrival; the goal itself counts when this
--- contact's arrival is b.
+-- contact's arrival is b. The positions are: the table, the goal, the arrival b, the animal x and its departure d, the animal z.
 unfoldable pub leads : List ℕ → ℕ → ℕ → ℕ → ℕ → ℕ → Lead
 leads T goal b x d z =
     cond (holds T (contact x z d))
-    (cond (eqb z goal) (cond (eqb (d + carry T) b) there nowhere) (onwardFrom (departureWith (d + carry T) b (cellsOf T z goal))))
+    (cond (eqb z goal) (cond (eqb (d + carry T) b) there nowhere) (leadFrom (departureWith (d + carry T) b (cellsOf T z goal))))
     nowhere
 
 -- The lowest-numbered animal below m to which a contact leads, and where it leads.
@@ -50,7 +51,7 @@ pub data Lowest : Type 0 where
 abbrev pub orElse : Lowest → ℕ → Lead → Lowest
 orElse nobody z nowhere = nobody
 orElse nobody z there = animal z there
-orElse nobody z (onward d) = animal z (onward d)
+orElse nobody z (leadsOn d) = animal z (leadsOn d)
 orElse (animal y l) z k = animal y l
 
 unfoldable pub lowest : (ℕ → Lead) → ℕ → Lowest
@@ -67,30 +68,27 @@ abbrev pub follow : ℕ → ℕ → Lowest → (ℕ → ℕ → Option (List Con
 follow x d nobody rest = none
 follow x d (animal z nowhere) rest = none
 follow x d (animal z there) rest = some (contact x z d ∷ [])
-follow x d (animal z (onward e)) rest = prepend (contact x z d) (rest z e)
+follow x d (animal z (leadsOn e)) rest = prepend (contact x z d) (rest z e)
 
 -- The chain from x with departure d to the goal with arrival b, of at most `most` contacts; none where it sticks or
--- needs more.
+-- needs more. The positions are: the table, the goal, the arrival b, `most`, the animal x and its departure d.
 unfoldable pub chainFrom : List ℕ → ℕ → ℕ → ℕ → ℕ → ℕ → Option (List Contact)
 chainFrom T goal b zero x d = none
 chainFrom T goal b (suc most) x d = follow x d (lowest (leads T goal b x d) (animals T)) (chainFrom T goal b most)
 
--- From the departure, if there is one.
-abbrev pub fromDeparture : Option ℕ → (ℕ → Option (List Contact)) → Option (List Contact)
-fromDeparture none g = none
-fromDeparture (some d) g = g d
+-- What there is for the tick, if there is one.
+abbrev pub withTick : Option ℕ → (ℕ → Option (List Contact)) → Option (List Contact)
+withTick none g = none
+withTick (some t) g = g t
 
--- With the arrival, if there is one by the last tick.
-abbrev pub withArrival : Option ℕ → ℕ → (ℕ → Option (List Contact)) → Option (List Contact)
-withArrival none last g = none
-withArrival (some b) last g = cond (leb b last) (g b) none
+-- Among the cell's intervals that fit the window the earliest arrival b is kept, then the latest departure d; what there is for them.
+abbrev pub ofKept : Cell → ℕ → ℕ → (ℕ → ℕ → Option (List Contact)) → Option (List Contact)
+ofKept c first last g =
+    withTick (earliestArrival c first) (λ b. withTick (latestDeparture c b) (λ d. cond (fitsWindow (interval d b) first last) (g b d) none))
 
--- Among fitting journeys the earliest arrival, then the latest departure; then from animal to animal. It never has more
--- than n−1 contacts.
+-- The chain of the interval kept, from animal to animal. It never has more than n−1 contacts.
 unfoldable pub chainOf : List ℕ → ℕ → ℕ → ℕ → ℕ → Option (List Contact)
-chainOf T u v first last =
-    withArrival (earliestArrival (cellsOf T u v) first) last
-    (λ b. fromDeparture (latestDeparture (cellsOf T u v) b) (λ d. chainFrom T v b (animals T - 1) u d))
+chainOf T u v first last = ofKept (cellsOf T u v) first last (λ b d. chainFrom T v b (animals T - 1) u d)
 
 -- 10 when the buffer is shorter than n−1 words, before the question whether there is a journey.
 unfoldable pub chainRefusal : List ℕ → ℕ → ℕ → ℕ → ℕ → List ℕ → Option Refusal

@@ -20,7 +20,8 @@ use Rattle.rules.specs.Answers.{ensure}
 unfoldable pub isOpen : List ℕ → Bool
 isOpen T = isOf openingLayout (getD T 0 0) && eqb (length T) (tableLength (animals T) (ticks T))
 
--- An interval word that departs after p and arrives after q: its departure at most τ, its arrival departure + δ to τ + δ.
+-- An interval word that departs after p and arrives after q, the ends of the row before it: its departure at most τ, its arrival
+-- departure + δ to τ + δ. The positions are: τ, δ, p, q, the word.
 unfoldable pub rowWellFormed : ℕ → ℕ → ℕ → ℕ → ℕ → Bool
 rowWellFormed τ δ p q w =
     isOf intervalLayout w
@@ -53,7 +54,7 @@ unfoldable pub wellFormed : List ℕ → Bool
 wellFormed T =
     allBelow (λ u. allBelow (λ v. cellWellFormed (ticks T) (carry T) (cond (eqb u v) 0 (ticks T)) (cellAt (animals T) (ticks T) T u v)) (animals T)) (animals T)
 
--- The table passes checks 5 and 6.
+-- The table passes checks 5 and 6. This is its shape only: no contacts need stand behind its intervals.
 pub record ValidTable (T : List ℕ) : Type 0 where
   pub opens : isOpen T ≡ true
   pub formed : wellFormed T ≡ true

@@ -1,12 +1,13 @@
 -- The check of a claimed chain (document 01, "Questions").
-use Prim.Native.Nat.{ℕ, _+_, _≤_}
+use Prim.Native.Nat.{ℕ, _+_}
 use mathlib.Core.Path.{_≡_}
 use mathlib.Core.Logic.{_↔_}
 use mathlib.Core.Bool.{Bool, true, false, _&&_}
 use mathlib.Core.Option.{Option, none}
 use mathlib.Core.List.{List, [], _∷_, map}
+use lib.ListN.{getD}
 use lib.Dec.{leb, ltb, eqb}
-use Rattle.journeys.specs.Journey.{Contact, contact, Contacts, Interval, JourneyTo, single, onward, Journey}
+use Rattle.journeys.specs.Journey.{Contact, contact, Contacts, Interval, interval, JourneyTo, single, onward}
 use Rattle.words.specs.Layout.{isOf}
 use Rattle.words.specs.Words.{contactLayout, contactOf, contactWord}
 use Rattle.rules.specs.declared.AskAnswer.{AskAnswer}
@@ -16,7 +17,7 @@ use Rattle.rules.specs.Layout.{animals, carry}
 use Rattle.rules.specs.Adding.{holds}
 use Rattle.rules.specs.Questions.{reachRefusal}
 use Rattle.rules.specs.Fresh.{Fresh}
-use Rattle.rules.specs.Fitting.{IsWindow, IsPair}
+use Rattle.rules.specs.Windows.{fitsWindow, Fits, IsWindow, IsPair}
 
 -- The word is a contact word whose contact the table holds; one with an animal n or above is a contact that it does not hold.
 unfoldable pub heldWord : List ℕ → ℕ → Bool
@@ -26,16 +27,31 @@ heldWord T w = isOf contactLayout w && ltb (contactOf w .from) (animals T) && lt
 abbrev pub leavesFrom : ℕ → ℕ → Contact → Bool
 leavesFrom x a k = eqb (k .from) x && leb a (k .tick)
 
--- The words are held contacts that form a journey from x, departing at or after a, to v, arriving by last.
+-- The words are held contacts that form a journey from x, leaving it at or after a, to v. The positions are: the table, the goal v, the
+-- animal x and the tick a, the words.
+unfoldable pub formJourney : List ℕ → ℕ → ℕ → ℕ → List ℕ → Bool
+formJourney T v x a [] = false
+formJourney T v x a (w ∷ []) = heldWord T w && leavesFrom x a (contactOf w) && eqb (contactOf w .to) v
+formJourney T v x a (w ∷ y ∷ ws) = heldWord T w && leavesFrom x a (contactOf w) && formJourney T v (contactOf w .to) (contactOf w .tick + carry T) (y ∷ ws)
+
+-- The last of the words.
+abbrev pub lastWord : List ℕ → ℕ
+lastWord [] = 0
+lastWord (w ∷ []) = w
+lastWord (w ∷ y ∷ ws) = lastWord (y ∷ ws)
+
+-- The interval of the journey that the words form: from the first contact's tick to the last one's arrival.
+abbrev pub intervalFormed : List ℕ → List ℕ → Interval
+intervalFormed T ws = interval (contactOf (getD ws 0 0) .tick) (contactOf (lastWord ws) .tick + carry T)
+
+-- The words form a journey of held contacts from u to v, and it fits the window.
 unfoldable pub spells : List ℕ → ℕ → ℕ → ℕ → ℕ → List ℕ → Bool
-spells T v last x a [] = false
-spells T v last x a (w ∷ []) = heldWord T w && leavesFrom x a (contactOf w) && eqb (contactOf w .to) v && leb (contactOf w .tick + carry T) last
-spells T v last x a (w ∷ y ∷ ws) = heldWord T w && leavesFrom x a (contactOf w) && spells T v last (contactOf w .to) (contactOf w .tick + carry T) (y ∷ ws)
+spells T u v first last ws = formJourney T v u 0 ws && fitsWindow (intervalFormed T ws) first last
 
 -- Yes when the list is not empty, each word is a contact word whose contact the table holds, and they form a fitting
 -- journey from u to v; else no.
 unfoldable pub claimedAnswer : List ℕ → ℕ → ℕ → ℕ → ℕ → List ℕ → AskAnswer
-claimedAnswer T u v first last ws = askAnswerOf (reachRefusal T u v first last) (spells T v last u first ws)
+claimedAnswer T u v first last ws = askAnswerOf (reachRefusal T u v first last) (spells T u v first last ws)
 
 -- ---- what it means
 
@@ -46,11 +62,8 @@ contactsOf (onward {x} {a} z t s h j) = contact x z a ∷ contactsOf j
 
 -- The words spell a journey of S from u to v that fits the window.
 pub record SpellsJourney (S : Contacts) (δ u v first last : ℕ) (ws : List ℕ) : Type 0 where
-  pub taken : Interval
-  pub journey : Journey S δ u v taken
-  pub departs : first ≤ taken .departure
-  pub arrives : taken .arrival ≤ last
-  pub words : ws ≡ map contactWord (contactsOf journey)
+  pub spelled : Fits S δ u v first last
+  pub words : ws ≡ map contactWord (contactsOf (spelled .journey))
 
 -- On a fresh table a claimed chain is answered yes exactly when its words spell a fitting journey of the set, else no.
 pub record ClaimsJudged : Type 1 where

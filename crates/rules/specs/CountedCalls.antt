@@ -10,7 +10,7 @@ use Rattle.rules.specs.declared.Tally.{Tally}
 use Rattle.rules.specs.Fresh.{Fresh}
 use Rattle.rules.specs.CallLists.{LegalOf}
 use Rattle.rules.specs.Orders.{Sorted, Earlier}
-use Rattle.rules.specs.Counting.{tallySum, hasRoom, countedTally, countedLeaves}
+use Rattle.rules.specs.Counting.{fullTally, tallySum, hasRoom, countedTally, countedLeaves}
 
 -- A tally and a table.
 pub record TallyAndTable : Type 0 where
@@ -48,7 +48,7 @@ module _ (n τ δ : ℕ) (T : List ℕ) (A : List Contact) where
     -- The table is fresh over the legal contacts of the calls counted.
     pub fresh : Fresh n τ δ (LegalOf n τ (counted (zeroTally T) A)) (runCounted (zeroTally T) A .table)
     -- No call is refused with 16 while there are 4,294,967,295 or fewer.
-    pub all-counted : length A ≤ 4294967295 → counted (zeroTally T) A ≡ A
+    pub all-counted : length A ≤ fullTally → counted (zeroTally T) A ≡ A
 
 abbrev pub AllCountedCalls : Type 0
 AllCountedCalls = (n τ δ : ℕ) (T : List ℕ) → Fresh n τ δ (λ k. ⊥) T → (A : List Contact) → CountedCalls n τ δ T A

@@ -17,9 +17,13 @@ use Rattle.rules.specs.Adding.{addAnswer, addLeaves}
 unfoldable pub tallySum : Tally → ℕ
 tallySum t = t .new + t .known + t .refused
 
+-- The sum at which a tally is full.
+abbrev pub fullTally : ℕ
+fullTally = 4294967295
+
 -- The tally has room for one more: its three numbers sum to less than 4,294,967,295.
 unfoldable pub hasRoom : Tally → Bool
-hasRoom t = ltb (tallySum t) 4294967295
+hasRoom t = ltb (tallySum t) fullTally
 
 -- 16 when it has none.
 abbrev pub fullRefusal : Tally → Option Refusal

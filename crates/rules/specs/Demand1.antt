@@ -24,7 +24,7 @@ use Rattle.rules.specs.Logs.{writeAnswer, writeLeaves}
 use Rattle.rules.specs.Reading.{readAnswer, readLeaves}
 use Rattle.rules.specs.Questions.{reachedAnswer, reachedWords, reachedCount}
 use Rattle.rules.specs.Chains.{chainAnswer, chainLeaves}
-use Rattle.rules.specs.Counting.{countedAnswer, countedLeaves, countedTally}
+use Rattle.rules.specs.Counting.{fullTally, countedAnswer, countedLeaves, countedTally}
 use Rattle.rules.specs.QuestionList.{listAnswer, listLeaves}
 
 -- Demand 1. That the memory lent is read and written only inside its ends, and that every call stops with an answer,
@@ -41,7 +41,7 @@ pub record Demand1 : Type 0 where
   -- "save that a counted add counts it unless its tally is full"
   pub counted-counts : (t : Tally) (T : List ℕ) (k : Contact) (r : Refusal) → countedAnswer t T k ≡ AddRefused r → r ≢ TallyFull
       → countedTally t T k ≡ record { new = t .new; known = t .known; refused = t .refused + 1 }
-  pub counted-full : (t : Tally) (T : List ℕ) (k : Contact) → (countedAnswer t T k ≡ AddRefused TallyFull) ↔ (4294967295 ≤ t .new + t .known + t .refused)
+  pub counted-full : (t : Tally) (T : List ℕ) (k : Contact) → (countedAnswer t T k ≡ AddRefused TallyFull) ↔ (fullTally ≤ t .new + t .known + t .refused)
   pub counted-full-kept : (t : Tally) (T : List ℕ) (k : Contact) → countedAnswer t T k ≡ AddRefused TallyFull → countedTally t T k ≡ t
   -- The other questions only read; a refused question for the animals reached gives an empty set.
   pub reached-refused : (T : List ℕ) (u first last : ℕ) (r : Refusal) → reachedAnswer T u first last ≡ SetRefused r

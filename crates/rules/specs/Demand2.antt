@@ -19,7 +19,7 @@ use Rattle.rules.specs.Layout.{cellsOf}
 use Rattle.rules.specs.Questions.{reachAnswer, earliestAnswer, latestAnswer, connectedAnswer, reachedAnswer, reachedWords, reachedCount}
 use Rattle.rules.specs.Fresh.{Fresh}
 use Rattle.rules.specs.Orders.{Sorted}
-use Rattle.rules.specs.Fitting.{IsWindow, IsPair, Fits}
+use Rattle.rules.specs.Windows.{IsWindow, IsPair, Fits}
 use Rattle.rules.specs.Chains.{chainAnswer, chainLeaves}
 use Rattle.rules.specs.ChainRule.{NamedChain}
 

@@ -11,12 +11,12 @@ pub mod Orders
 pub mod CallLists
 pub mod Reading
 pub mod Counting
+pub mod Windows
 pub mod Questions
 pub mod QuestionList
 pub mod Chains
 pub mod Claims
 pub mod Sheet
-pub mod Fitting
 pub mod ChainRule
 pub mod Demand1
 pub mod Demand2

@@ -9,7 +9,7 @@ use lib.ListN.{length}
 use Rattle.journeys.specs.Journey.{Contact, Contacts}
 use Rattle.words.specs.Words.{contactWord}
 use Rattle.rules.specs.Fresh.{Fresh}
-use Rattle.rules.specs.Fitting.{IsWindow, IsPair}
+use Rattle.rules.specs.Windows.{IsWindow, IsPair}
 use Rattle.rules.specs.declared.AskAnswer.the-variants.{Yes}
 use Rattle.rules.specs.Questions.{reachAnswer}
 use Rattle.rules.specs.Chains.{chainOf}

@@ -1,49 +1,25 @@
 -- Questions about windows and ticks (document 01, "Questions"). Stored intervals stand for the journeys.
-use Prim.Native.Nat.{ℕ, _+_, _-_, _*_, _^_}
+use Prim.Native.Nat.{ℕ, _+_, _*_, _^_}
 use mathlib.Core.Bool.{Bool, true, false, cond, not, _&&_, _||_}
 use mathlib.Core.Option.{Option, none, some}
 use mathlib.Core.List.{List, [], _∷_}
 use lib.ListN.{replicate}
-use lib.Dec.{leb, ltb, eqb}
-use Rattle.journeys.specs.Journey.{Interval, interval}
+use lib.Dec.{ltb, eqb}
 use Rattle.journeys.specs.Cell.{hasInside, latestDeparture, earliestArrival}
 use Rattle.rules.specs.declared.Refusal.{Refusal}
-use Rattle.rules.specs.declared.Refusal.the-variants.{NoSuchAnimal, TickOutOfRange}
+use Rattle.rules.specs.declared.Refusal.the-variants.{NoSuchAnimal}
 use Rattle.rules.specs.declared.AskAnswer.{AskAnswer}
 use Rattle.rules.specs.declared.TickAnswer.{TickAnswer}
 use Rattle.rules.specs.declared.SetAnswer.{SetAnswer}
 use Rattle.rules.specs.declared.SetAnswer.the-variants.{Found, Refused}
 use Rattle.rules.specs.Answers.{ensure, unless, askAnswerOf, tickAnswerOf}
-use Rattle.rules.specs.Folds.{allBelow, sumBelow, countBelow, within}
-use Rattle.rules.specs.Layout.{animals, ticks, carry, cellsOf}
+use Rattle.rules.specs.Folds.{allBelow, sumBelow, countBelow}
+use Rattle.rules.specs.Layout.{animals, cellsOf}
 use Rattle.rules.specs.Checks.{ensureTable}
 use Rattle.rules.specs.Adding.{ensurePair}
+use Rattle.rules.specs.Windows.{window, ensureWindow, ensureMoment}
 
--- ---- windows and ticks
-
--- Arrivals run to τ+δ.
-abbrev pub lastArrival : List ℕ → ℕ
-lastArrival T = ticks T + carry T
-
--- A journey fits a window when its interval lies inside this one: it departs at or after first and arrives by last.
-abbrev pub window : ℕ → ℕ → Interval
-window first last = interval first last
-
--- The ticks of a window are 1 to τ+δ.
-abbrev pub windowInRange : List ℕ → ℕ → ℕ → Bool
-windowInRange T first last = within 1 first (lastArrival T) && within 1 last (lastArrival T)
-
--- BeforeHead is not after last.
-abbrev pub inOrder : ℕ → ℕ → Bool
-inOrder first last = leb first last
-
--- A window: 9 when a tick is out of range, or first is after last.
-abbrev pub ensureWindow : List ℕ → ℕ → ℕ → Option Refusal → Option Refusal
-ensureWindow T first last o = ensure (windowInRange T first last) TickOutOfRange (ensure (inOrder first last) TickOutOfRange o)
-
--- A single tick, of earliest arrival and latest departure: 9 when it is not 1 to τ+δ.
-abbrev pub ensureMoment : List ℕ → ℕ → Option Refusal → Option Refusal
-ensureMoment T t o = ensure (within 1 t (lastArrival T)) TickOutOfRange o
+-- ---- one animal
 
 -- One animal: 7 when its number is n or above.
 abbrev pub ensureAnimal : List ℕ → ℕ → Option Refusal → Option Refusal

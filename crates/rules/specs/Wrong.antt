@@ -17,29 +17,41 @@ use Rattle.rules.specs.declared.AddAnswer.the-variants.{New, Known, Refu
 use Rattle.rules.specs.Answers.{unless, addAnswerOf}
 use Rattle.rules.specs.Folds.{flat, allBelow}
 use Rattle.rules.specs.Layout.{tableWords, animals, ticks, carry, cellsOf}
-use Rattle.rules.specs.Opening.{openAnswer, openLeaves}
-use Rattle.rules.specs.Adding.{addRefusal, holds, addedCells, cellsChanged, addAnswer, addLeaves}
-use Rattle.rules.specs.Logs.{heldContacts, logWords, writeRefusal, writeAnswer, writeLeaves}
-use Rattle.rules.specs.CallLists.{Engine}
+use Rattle.rules.specs.Adding.{addRefusal, holds, addedCells, cellsChanged}
+use Rattle.rules.specs.Logs.{heldContacts, logWords, writeRefusal}
+use Rattle.rules.specs.CallLists.{Engine, engine}
 use Rattle.rules.specs.Demand3.{Demand3}
 
--- The engine with another rule for what an add leaves, for what it answers, and for the log.
+-- The part that is given, else document 01's.
+abbrev pub given : {A : Type 0} → Option A → A → A
+given none a = a
+given (some b) a = b
+
+-- The engine of document 01, but for the parts that are given: what an opening answers and leaves, what an add answers and leaves, and what
+-- a log leaves.
+abbrev pub engineBut : Option (ℕ → ℕ → ℕ → List ℕ → OpenAnswer) → Option (ℕ → ℕ → ℕ → List ℕ → List ℕ) → Option (List ℕ → Contact → AddAnswer)
+    → Option (List ℕ → Contact → List ℕ) → Option (List ℕ → List ℕ → List ℕ) → Engine
+engineBut opens opened adds added written =
+    record {
+      open-answer = given opens (engine .open-answer);
+      open-leaves = given opened (engine .open-leaves);
+      add-answer = given adds (engine .add-answer);
+      add-leaves = given added (engine .add-leaves);
+      write-answer = engine .write-answer;
+      write-leaves = given written (engine .write-leaves);
+    }
+
+-- Another rule for what an add leaves, for what it answers, and for the contacts of a log.
 abbrev withLeaves : (List ℕ → Contact → List ℕ) → Engine
-withLeaves f = record { open-answer = openAnswer; open-leaves = openLeaves; add-answer = addAnswer; add-leaves = f; write-answer = writeAnswer; write-leaves = writeLeaves }
+withLeaves f = engineBut none none none (some f) none
 
 abbrev withAnswer : (List ℕ → Contact → AddAnswer) → Engine
-withAnswer f = record { open-answer = openAnswer; open-leaves = openLeaves; add-answer = f; add-leaves = addLeaves; write-answer = writeAnswer; write-leaves = writeLeaves }
+withAnswer f = engineBut none none (some f) none none
 
 abbrev withLog : (List Contact → List Contact) → Engine
 withLog f =
-    record {
-      open-answer = openAnswer;
-      open-leaves = openLeaves;
-      add-answer = addAnswer;
-      add-leaves = addLeaves;
-      write-answer = writeAnswer;
-      write-leaves = λ T B. unless (writeRefusal T B) (logWords (getD T 0 0) (f (heldContacts T)) ++ drop (length (f (heldContacts T)) + 2) B) B;
-    }
+    engineBut none none none none
+    (some (λ T B. unless (writeRefusal T B) (logWords (getD T 0 0) (f (heldContacts T)) ++ drop (length (f (heldContacts T)) + 2) B) B))
 
 -- The engine with another rule for the cells of n animals after a contact.
 abbrev withCells : (ℕ → ℕ → Cells → Contact → Cells) → Engine
@@ -106,8 +118,7 @@ refusesAdds = withAnswer (λ T k. AddRefused NoSuchAnimal)
 
 -- Refusal of every opening.
 abbrev pub refusesOpenings : Engine
-refusesOpenings =
-    record { open-answer = λ n τ δ T. OpenRefused AnimalsBeyondLimit; open-leaves = λ n τ δ T. T; add-answer = addAnswer; add-leaves = addLeaves; write-answer = writeAnswer; write-leaves = writeLeaves }
+refusesOpenings = engineBut (some (λ n τ δ T. OpenRefused AnimalsBeyondLimit)) (some (λ n τ δ T. T)) none none none
 
 -- ---- what a log lists
 

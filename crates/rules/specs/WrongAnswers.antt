@@ -1,23 +1,43 @@
 -- Wrong answers that demand 2 shuts out (document 01, last paragraph: "Reject").
 use Prim.Native.Nat.{ℕ, zero, suc, _-_}
-use mathlib.Core.Option.{Option, none}
+use mathlib.Core.Option.{Option, none, some}
 use mathlib.Core.List.{List, [], _∷_, map}
 use lib.ListN.{replicate}
 use Rattle.journeys.specs.Journey.{Contact}
-use Rattle.journeys.specs.Cell.{latestDeparture, earliestArrival}
 use Rattle.rules.specs.declared.AskAnswer.{AskAnswer}
 use Rattle.rules.specs.declared.AskAnswer.the-variants.{Yes, No}
 use Rattle.rules.specs.declared.TickAnswer.{TickAnswer}
 use Rattle.rules.specs.declared.TickAnswer.the-variants.{Nothing}
 use Rattle.rules.specs.Answers.{unless, askAnswerOf}
 use Rattle.rules.specs.Layout.{animals, cellsOf}
-use Rattle.rules.specs.Questions.{reaches, reachRefusal, reachAnswer, earliestAnswer, latestAnswer, connectedAnswer, reachedAnswer, reachedWords, reachedCount}
-use Rattle.rules.specs.Chains.{Lead, Lowest, nobody, animal, orElse, leads, follow, fromDeparture, withArrival, chainRefusal, chainAnswerOf, chainWords, chainAnswer, chainLeaves}
-use Rattle.rules.specs.Demand2.{Questions, Demand2}
+use Rattle.rules.specs.Questions.{reaches, reachRefusal}
+use Rattle.rules.specs.Chains.{Lead, Lowest, nobody, animal, orElse, leads, follow, ofKept, chainOf, chainRefusal, chainAnswerOf, chainWords}
+use Rattle.rules.specs.Demand2.{Questions, questions, Demand2}
+use Rattle.rules.specs.Wrong.{given}
 
--- The questions with another rule for reach, for earliest arrival, for connected, and for the set's words.
+-- The questions of document 01, but for the parts that are given: reach, earliest arrival, connected, the set's words, its count, and the
+-- rule of the chain on the same checks.
+abbrev pub questionsBut : Option (List ℕ → ℕ → ℕ → ℕ → ℕ → AskAnswer) → Option (List ℕ → ℕ → ℕ → ℕ → TickAnswer) → Option (List ℕ → ℕ → ℕ → AskAnswer)
+    → Option (List ℕ → ℕ → ℕ → ℕ → List ℕ) → Option (List ℕ → ℕ → ℕ → ℕ → ℕ) → Option (List ℕ → ℕ → ℕ → ℕ → ℕ → Option (List Contact)) → Questions
+questionsBut reach earliest connected words count rule =
+    record {
+      reach = given reach (questions .reach);
+      earliest = given earliest (questions .earliest);
+      latest = questions .latest;
+      connected = given connected (questions .connected);
+      reached = questions .reached;
+      reached-words = given words (questions .reached-words);
+      reached-count = given count (questions .reached-count);
+      chain = λ T u v first last B. chainAnswerOf (chainRefusal T u v first last B) (given rule chainOf T u v first last);
+      chain-leaves = λ T u v first last B. unless (chainRefusal T u v first last B) (chainWords (given rule chainOf T u v first last) B) B;
+    }
+
+-- Another rule for reach, and another for the chain.
 abbrev withReach : (List ℕ → ℕ → ℕ → ℕ → ℕ → AskAnswer) → Questions
-withReach g = record { reach = g; earliest = earliestAnswer; latest = latestAnswer; connected = connectedAnswer; reached = reachedAnswer; reached-words = reachedWords; reached-count = reachedCount; chain = chainAnswer; chain-leaves = chainLeaves }
+withReach g = questionsBut (some g) none none none none none
+
+abbrev withChain : (List ℕ → ℕ → ℕ → ℕ → ℕ → Option (List Contact)) → Questions
+withChain g = questionsBut none none none none none (some g)
 
 -- "No" every time.
 abbrev pub alwaysNo : Questions
@@ -37,38 +57,19 @@ beginsLater = withReach (λ T u v first last. askAnswerOf (reachRefusal T u v fi
 
 -- "No journey" every time, for the earliest arrival.
 abbrev pub neverArrives : Questions
-neverArrives =
-    record { reach = reachAnswer; earliest = λ T u v first. Nothing; latest = latestAnswer; connected = connectedAnswer; reached = reachedAnswer; reached-words = reachedWords; reached-count = reachedCount; chain = chainAnswer; chain-leaves = chainLeaves }
+neverArrives = questionsBut none (some (λ T u v first. Nothing)) none none none none
 
 -- Connected every time.
 abbrev pub alwaysConnected : Questions
-alwaysConnected =
-    record { reach = reachAnswer; earliest = earliestAnswer; latest = latestAnswer; connected = λ T first last. Yes; reached = reachedAnswer; reached-words = reachedWords; reached-count = reachedCount; chain = chainAnswer; chain-leaves = chainLeaves }
+alwaysConnected = questionsBut none none (some (λ T first last. Yes)) none none none
 
 -- A set that is always empty.
 abbrev pub reachesNobody : Questions
-reachesNobody =
-    record { reach = reachAnswer; earliest = earliestAnswer; latest = latestAnswer; connected = connectedAnswer; reached = reachedAnswer; reached-words = λ T u first last. replicate 8 0; reached-count = reachedCount; chain = chainAnswer; chain-leaves = chainLeaves }
+reachesNobody = questionsBut none none none (some (λ T u first last. replicate 8 0)) none none
 
 -- A count that is always 0.
 abbrev pub countsNobody : Questions
-countsNobody =
-    record { reach = reachAnswer; earliest = earliestAnswer; latest = latestAnswer; connected = connectedAnswer; reached = reachedAnswer; reached-words = reachedWords; reached-count = λ T u first last. 0; chain = chainAnswer; chain-leaves = chainLeaves }
-
--- The questions with another rule for the chain, on the same checks.
-abbrev withChain : (List ℕ → ℕ → ℕ → ℕ → ℕ → Option (List Contact)) → Questions
-withChain g =
-    record {
-      reach = reachAnswer;
-      earliest = earliestAnswer;
-      latest = latestAnswer;
-      connected = connectedAnswer;
-      reached = reachedAnswer;
-      reached-words = reachedWords;
-      reached-count = reachedCount;
-      chain = λ T u v first last B. chainAnswerOf (chainRefusal T u v first last B) (g T u v first last);
-      chain-leaves = λ T u v first last B. unless (chainRefusal T u v first last B) (chainWords (g T u v first last) B) B;
-    }
+countsNobody = questionsBut none none none none (some (λ T u first last. 0)) none
 
 -- "No journey" every time, for the chain.
 abbrev pub neverChained : Questions
@@ -90,9 +91,7 @@ chainFromOf zs T goal b (suc most) x d = follow x d (firstOf zs (leads T goal b 
 
 abbrev inOrderOf : (List ℕ → List ℕ) → Questions
 inOrderOf order =
-    withChain
-    (λ T u v first last.
-    withArrival (earliestArrival (cellsOf T u v) first) last (λ b. fromDeparture (latestDeparture (cellsOf T u v) b) (λ d. chainFromOf (order T) T v b (animals T - 1) u d)))
+    withChain (λ T u v first last. ofKept (cellsOf T u v) first last (λ b d. chainFromOf (order T) T v b (animals T - 1) u d))
 
 -- The animals below m, the highest first.
 unfoldable pub downFrom : ℕ → List ℕ

@@ -65,7 +65,7 @@ ticksField = bits 9 0
 abbrev pub openingLayout : Layout
 openingLayout = record { kind = 2; fields = animalsField ∷ carryField ∷ ticksField ∷ [] }
 
--- The opening word of n animals, τ ticks and carry time δ.
+-- The opening word of n animals, τ ticks and carry time δ, in this order; the word packs n, δ, τ.
 abbrev pub openingWord : ℕ → ℕ → ℕ → ℕ
 openingWord n τ δ = pack openingLayout ((n - 1) ∷ (δ - 1) ∷ (τ - 1) ∷ [])
 

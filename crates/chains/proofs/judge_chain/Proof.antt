@@ -1,6 +1,6 @@
 -- `judge_chain` meets its contract: each return is the verdict of one group of checks.
 use borrow.Author.Needs.{needs}
-use Rattle.rules.specs.Questions.{ensureWindow}
+use Rattle.rules.specs.Windows.{ensureWindow}
 use Rattle.checks.proofs.Groups.{table-group, pair-group, window-group, group-refused, group-passed, table-long}
 use Rattle.chains.specs.Found.{roomCheck, chainChecks}
 use Rattle.chains.proofs.judge_chain.Statement.{statement}

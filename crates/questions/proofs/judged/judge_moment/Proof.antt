@@ -1,7 +1,8 @@
 -- `judged::judge_moment` meets its contract: each return is the verdict of one group of checks.
 use mathlib.Core.Option.{none}
 use borrow.Author.Needs.{needs}
-use Rattle.rules.specs.Questions.{ensureMoment, momentRefusal}
+use Rattle.rules.specs.Windows.{ensureMoment}
+use Rattle.rules.specs.Questions.{momentRefusal}
 use Rattle.checks.proofs.Groups.{table-group, pair-group, group-refused, group-passed, table-long}
 use Rattle.questions.proofs.judged.judge_moment.Statement.{statement}
 use Rattle.questions.proofs.judged.judge_moment.Tie as tie

@@ -2,7 +2,8 @@
 use mathlib.Core.Option.{none}
 use native.Mathlib.Omega.{arith}
 use borrow.Author.Needs.{needs}
-use Rattle.rules.specs.Questions.{ensureWindow, reachRefusal}
+use Rattle.rules.specs.Windows.{ensureWindow}
+use Rattle.rules.specs.Questions.{reachRefusal}
 use Rattle.rules.proofs.Sound.{opens-length}
 use Rattle.checks.proofs.Groups.{pair-group, group-refused, group-passed}
 use Rattle.questions.proofs.Answered.{behind-table}

@@ -1,7 +1,8 @@
 -- `judged::judge_reached` meets its contract: each return is the verdict of one group of checks.
 use mathlib.Core.Option.{none}
 use borrow.Author.Needs.{needs}
-use Rattle.rules.specs.Questions.{ensureWindow, reachedRefusal}
+use Rattle.rules.specs.Windows.{ensureWindow}
+use Rattle.rules.specs.Questions.{reachedRefusal}
 use Rattle.checks.proofs.Groups.{table-group, animal-group, group-refused, group-passed, table-long}
 use Rattle.questions.proofs.judged.judge_reached.Statement.{statement}
 use Rattle.questions.proofs.judged.judge_reached.Tie as tie
