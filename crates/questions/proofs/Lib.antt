@@ -1,4 +1,4 @@
 pub mod Pairs
-pub mod Answered
+pub mod TickAnswers
 pub mod Passing
 pub mod Collecting
