@@ -33,7 +33,7 @@ pub extern "C" fn herd_open(table: &mut [u32], animals: u32, ticks: u32, carry: 
     let answer = engine::open_table(table, animals, ticks, carry);
     match answer {
         OpenAnswer::Opened => reply_of(1, 0),
-        OpenAnswer::Refused(r) => reply_of(0, engine::number_of(r)),
+        OpenAnswer::Refused(r) => reply_of(0, checks::number_of(r)),
     }
 }
 
@@ -47,7 +47,7 @@ pub extern "C" fn herd_add(table: &mut [u32], u: u32, v: u32, t: u32) -> u64
     match answer {
         AddAnswer::New(k) => reply_of(1, k),
         AddAnswer::Known(k) => reply_of(2, k),
-        AddAnswer::Refused(r) => reply_of(0, engine::number_of(r)),
+        AddAnswer::Refused(r) => reply_of(0, checks::number_of(r)),
     }
 }
 
@@ -60,7 +60,7 @@ pub extern "C" fn herd_read_log(log: &[u32], table: &mut [u32]) -> u64
     let answer = engine::read_log(log, table);
     match answer {
         ReadAnswer::Read(k) => reply_of(1, k),
-        ReadAnswer::Refused(r) => reply_of(0, engine::number_of(r)),
+        ReadAnswer::Refused(r) => reply_of(0, checks::number_of(r)),
     }
 }
 
@@ -73,7 +73,7 @@ pub extern "C" fn herd_write_log(table: &[u32], buffer: &mut [u32]) -> u64
     let answer = engine::write_log(table, buffer);
     match answer {
         WriteAnswer::Written(k) => reply_of(1, k),
-        WriteAnswer::Refused(r) => reply_of(0, engine::number_of(r)),
+        WriteAnswer::Refused(r) => reply_of(0, checks::number_of(r)),
     }
 }
 
@@ -86,7 +86,7 @@ pub extern "C" fn herd_reach(table: &[u32], u: u32, v: u32, first: u32, last: u3
     match answer {
         AskAnswer::Yes => reply_of(1, 0),
         AskAnswer::No => reply_of(2, 0),
-        AskAnswer::Refused(r) => reply_of(0, engine::number_of(r)),
+        AskAnswer::Refused(r) => reply_of(0, checks::number_of(r)),
     }
 }
 
@@ -107,6 +107,6 @@ pub extern "C" fn herd_chain(
     match answer {
         ChainAnswer::Chain(k) => reply_of(1, k),
         ChainAnswer::NoJourney => reply_of(2, 0),
-        ChainAnswer::Refused(r) => reply_of(0, engine::number_of(r)),
+        ChainAnswer::Refused(r) => reply_of(0, checks::number_of(r)),
     }
 }
