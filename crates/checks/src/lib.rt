@@ -131,14 +131,7 @@ pub fn judge_reached(table: &[u32], u: u32, first: u32, last: u32) -> Verdict
 }
 
 // All checks of a chain: 5, 6, then 7, 8, then 9, then 10.
-pub fn judge_chain(
-    table: &[u32],
-    u: u32,
-    v: u32,
-    first: u32,
-    last: u32,
-    buffer: &[u32],
-) -> Verdict
+pub fn judge_chain(table: &[u32], u: u32, v: u32, first: u32, last: u32, buffer: &[u32]) -> Verdict
     ensures { λ r. ⌜ r ≡ verdictOf (chainRefusal (now (table .entry)) u v first last (now (buffer .entry))) ⌝ }
 {
     let whole = judge_table(table);
@@ -159,8 +152,5 @@ pub fn judge_read(log: &[u32], table: &[u32]) -> Verdict
     let length = log::judge_length(log, table);
     let each = log::judge_words(log);
     let end = log::judge_end(log);
-    groups::and_then(
-        shape,
-        groups::and_then(length, groups::and_then(each, end)),
-    )
+    groups::and_then(shape, groups::and_then(length, groups::and_then(each, end)))
 }

@@ -28,10 +28,7 @@ pub(crate) fn judge_length(log: &[u32], table: &[u32]) -> Verdict
     ensures { λ r. ⌜ r ≡ verdictOf (ensure (eqb (length (now (table .entry))) (tableLength (animals (now (log .entry))) (ticks (now (log .entry))))) WrongLength none) ⌝ }
 {
     let opening = Opening::of_word(groups::first_word(log));
-    groups::ensure(
-        table.len() == opening.table_length(),
-        Refusal::WrongLength,
-    )
+    groups::ensure(table.len() == opening.table_length(), Refusal::WrongLength)
 }
 
 // The words between the first and the last.
@@ -109,8 +106,5 @@ pub(crate) fn judge_end(log: &[u32]) -> Verdict
     let w = last_word(log);
     let count = between(log).len();
     let counted = words::logged_of(w) as usize == count;
-    groups::ensure(
-        groups::both(words::is_end(w), counted),
-        Refusal::WrongEnd,
-    )
+    groups::ensure(groups::both(words::is_end(w), counted), Refusal::WrongEnd)
 }
