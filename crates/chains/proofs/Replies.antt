@@ -1,53 +1,30 @@
 -- What the question for a chain answers and leaves, from what its checks and its inner functions say.
 use mathlib.Core.Path.{_≡_, refl, sym, ap, _∙_, subst}
-use mathlib.Core.Bool.{Bool, true, false, not, _&&_}
+use mathlib.Core.Bool.{Bool, true, false, not}
 use mathlib.Core.Option.{Option, none, some}
 use mathlib.Core.List.{List, [], _∷_, _++_, map, append-assoc}
 use Prim.Native.Nat.{ℕ, suc, _+_, _-_, _≤_, _<_}
 use native.Mathlib.Numerals.{add-one}
 use native.Mathlib.Omega.{arith}
-use lib.Dec.{ltb, leb, eqb}
+use lib.Dec.{leb}
 use lib.ListN.{length, getD, take, drop, set, length-map}
 use lib.Seq.{take-suc, drop-cons, set-at, length-take-le}
-use borrow.Author.Tests.{ltb-true, leb-true, le-leb, lt-leb, not-true, not-false}
+use borrow.Author.Tests.{not-true, not-false}
 use Rattle.journeys.specs.Journey.{Contact, interval}
 use Rattle.journeys.specs.Cell.{latestDeparture, earliestArrival}
 use Rattle.journeys.proofs.Tests.{never}
 use Rattle.words.specs.Words.{contactWord}
 use Rattle.rules.specs.Limits.{maxTicks, maxCellWords}
-use Rattle.rules.specs.declared.Refusal.{Refusal}
-use Rattle.rules.specs.declared.Refusal.the-variants.{NoSuchAnimal, SameAnimal, TickOutOfRange, ChainBufferTooShort}
-use Rattle.rules.specs.declared.ChainAnswer.the-variants.{Chain, NoJourney, Refused as ChainRefused}
-use Rattle.rules.specs.Answers.{ensure}
+use Rattle.rules.specs.declared.ChainAnswer.the-variants.{Chain, NoJourney}
 use Rattle.rules.specs.Layout.{animals, cellsOf}
 use Rattle.rules.specs.Checks.{ValidTable}
-use Rattle.rules.specs.Adding.{ensurePair}
-use Rattle.rules.specs.Windows.{fitsWindow, windowInRange, inOrder, ensureWindow}
+use Rattle.rules.specs.Windows.{fitsWindow}
 use Rattle.rules.specs.Chains.{chainFrom, chainOf, chainRefusal, chainAnswerOf, chainAnswer, chainWords, chainLeaves}
-use Rattle.rules.proofs.Folds.{and-left, and-right}
-use Rattle.rules.proofs.Judged.{ensure-iff}
 use Rattle.rules.proofs.Sound.{table-sizes, passes-good}
 use Rattle.cells.specs.Stored.{orZero}
 use Rattle.cells.proofs.Checks.{stopped, passed}
-use Rattle.checks.specs.declared.Verdict.{Verdict}
-use Rattle.checks.specs.declared.Verdict.the-variants.{Passed, Refused}
-use Rattle.checks.specs.Verdicts.{verdictOf}
-use Rattle.checks.proofs.Groups.{verdict-refused, verdict-passed}
-use Rattle.tables.proofs.Ticks.{Tick, tick-below, latest-tick}
-use Rattle.tables.proofs.Ticks.{earliest-from-one, latest-from-one, tick-none, tick-some}
-use Rattle.questions.proofs.Answered.{passes-of}
-use Rattle.chains.specs.Found.{wordsOf, collected, roomCheck, chainChecks}
-
--- ---- check 10, with n the table's number of animals
-
-module _ (T : List ℕ) (m n : ℕ) (e : n ≡ animals T) where
-  -- A buffer shorter than n − 1 words is refused.
-  pub room-short : m < n - 1 → Refused ChainBufferTooShort ≡ verdictOf (roomCheck T m)
-  room-short h = rw (lt-leb (animals T - 1) m (subst (λ (i : ℕ). m < i - 1) e h)) refl
-
-  -- Any other passes.
-  pub room-passed : n - 1 ≤ m → Passed ≡ verdictOf (roomCheck T m)
-  room-passed h = rw (le-leb (animals T - 1) m (subst (λ (i : ℕ). i - 1 ≤ m) e h)) refl
+use Rattle.tables.proofs.Ticks.{Tick, tick-below, latest-tick, earliest-from-one, latest-from-one, tick-none, tick-some}
+use Rattle.chains.specs.Found.{wordsOf, collected}
 
 -- ---- the words written to the front
 
@@ -121,13 +98,6 @@ module _ {T : List ℕ} {u v first b : ℕ} (k : Kept T u v first b) (last : ℕ
 
 -- ---- the answer
 
--- What the checks say of a call that is not refused: the table passed, the two are animals of it, and the buffer is long enough.
-pub record Accepted (T : List ℕ) (u v m : ℕ) : Type 0 where
-  pub passes : ValidTable T
-  pub from-below : u < animals T
-  pub to-below : v < animals T
-  pub room : animals T - 1 ≤ m
-
 -- Words said to be none are those of no chain.
 words-none : (o : Option (List Contact)) → none ≡ wordsOf o → o ≡ none
 unfolding wordsOf
@@ -143,59 +113,25 @@ words-some B ws (some l) e =
     let r : length ws ≡ length l = ap length q ∙ length-map l contactWord in
     (ap Chain r, ap (λ (i : List ℕ). i ++ drop (length ws) B) q ∙ ap (λ (i : ℕ). map contactWord l ++ drop i B) r)
 
-module _ (T : List ℕ) (u v first last : ℕ) (B : List ℕ) (w : Verdict) (p : w ≡ verdictOf (chainChecks T u v first last (length B))) where
-  -- The checks are those of the rule.
-  checks-are : w ≡ verdictOf (chainRefusal T u v first last B)
-  unfolding chainRefusal chainChecks
-  checks-are = p
+module _ (T : List ℕ) (u v first last : ℕ) (B : List ℕ) (ok : chainRefusal T u v first last B ≡ none) where
+  module _ (f : Bool) (k : ℕ) (ws : List ℕ) (e : collected f k ws ≡ wordsOf (chainOf T u v first last)) where
+    -- Without a chain there is no journey, and nothing is written.
+    pub chain-none : not f ≡ true → (NoJourney ≡ chainAnswer T u v first last B) × (B ≡ chainLeaves T u v first last B)
+    unfolding chainAnswer chainLeaves collected
+    chain-none n =
+        let h = words-none (chainOf T u v first last) (ap (λ (i : Bool). collected i k ws) (sym (not-true f n)) ∙ e) in
+        (rw (ok, h) refl, rw (ok, h) refl)
 
-  -- A refused call answers its refusal and writes nothing.
-  pub chain-refused : (r : Refusal) → w ≡ Refused r → (ChainRefused r ≡ chainAnswer T u v first last B) × (B ≡ chainLeaves T u v first last B)
-  unfolding chainAnswer chainLeaves
-  chain-refused r q =
-      let e = verdict-refused (chainRefusal T u v first last B) r (sym checks-are ∙ q) in
-      (rw e refl, rw e refl)
+    module _ (n : not f ≡ false) (l : k ≤ length ws) where
+      -- The words found are those of the chain.
+      found-words : some (take k ws) ≡ wordsOf (chainOf T u v first last)
+      unfolding collected
+      found-words = ap (λ (i : Bool). collected i k ws) (sym (not-false f n)) ∙ e
 
-  module _ (q : w ≡ Passed) where
-    -- Nothing is refused.
-    none-refused : chainRefusal T u v first last B ≡ none
-    none-refused = verdict-passed (chainRefusal T u v first last B) (sym checks-are ∙ q)
-
-    -- What the checks say.
-    pub chain-accepted : Accepted T u v (length B)
-    unfolding chainRefusal
-    chain-accepted =
-        let a = passes-of T (ensurePair T u v (ensureWindow T first last (roomCheck T (length B)))) none-refused in
-        let b = ensure-iff (ltb u (animals T) && ltb v (animals T)) NoSuchAnimal (ensure (not (eqb u v)) SameAnimal (ensureWindow T first last (roomCheck T (length B)))) .0 (a .1) in
-        let c = ensure-iff (not (eqb u v)) SameAnimal (ensureWindow T first last (roomCheck T (length B))) .0 (b .1) in
-        let d = ensure-iff (windowInRange T first last) TickOutOfRange (ensure (inOrder first last) TickOutOfRange (roomCheck T (length B))) .0 (c .1) in
-        let f = ensure-iff (inOrder first last) TickOutOfRange (roomCheck T (length B)) .0 (d .1) in
-        let g = ensure-iff (leb (animals T - 1) (length B)) ChainBufferTooShort none .0 (f .1) in
-        record {
-          passes = a .0;
-          from-below = ltb-true u (animals T) (and-left (ltb u (animals T)) (ltb v (animals T)) (b .0));
-          to-below = ltb-true v (animals T) (and-right (ltb u (animals T)) (ltb v (animals T)) (b .0));
-          room = leb-true (animals T - 1) (length B) (g .0);
-        }
-
-    module _ (f : Bool) (k : ℕ) (ws : List ℕ) (e : collected f k ws ≡ wordsOf (chainOf T u v first last)) where
-      -- Without a chain there is no journey, and nothing is written.
-      pub chain-none : not f ≡ true → (NoJourney ≡ chainAnswer T u v first last B) × (B ≡ chainLeaves T u v first last B)
-      unfolding chainAnswer chainLeaves collected
-      chain-none n =
-          let h = words-none (chainOf T u v first last) (ap (λ (i : Bool). collected i k ws) (sym (not-true f n)) ∙ e) in
-          (rw (none-refused, h) refl, rw (none-refused, h) refl)
-
-      module _ (n : not f ≡ false) (l : k ≤ length ws) where
-        -- The words found are those of the chain.
-        found-words : some (take k ws) ≡ wordsOf (chainOf T u v first last)
-        unfolding collected
-        found-words = ap (λ (i : Bool). collected i k ws) (sym (not-false f n)) ∙ e
-
-        -- A chain is answered by the number of its contacts, and its words are written to the front.
-        pub chain-found : (C : List ℕ) → C ≡ take k ws ++ drop k B → (Chain k ≡ chainAnswer T u v first last B) × (C ≡ chainLeaves T u v first last B)
-        unfolding chainAnswer chainLeaves
-        chain-found C c =
-            let r = words-some B (take k ws) (chainOf T u v first last) found-words in
-            let g : length (take k ws) ≡ k = length-take-le k ws l in
-            (rw none-refused (ap Chain (sym g) ∙ r .0), rw none-refused (c ∙ ap (λ (i : ℕ). take k ws ++ drop i B) (sym g) ∙ r .1))
+      -- A chain is answered by the number of its contacts, and its words are written to the front.
+      pub chain-found : (C : List ℕ) → C ≡ take k ws ++ drop k B → (Chain k ≡ chainAnswer T u v first last B) × (C ≡ chainLeaves T u v first last B)
+      unfolding chainAnswer chainLeaves
+      chain-found C c =
+          let r = words-some B (take k ws) (chainOf T u v first last) found-words in
+          let g : length (take k ws) ≡ k = length-take-le k ws l in
+          (rw ok (ap Chain (sym g) ∙ r .0), rw ok (c ∙ ap (λ (i : ℕ). take k ws ++ drop i B) (sym g) ∙ r .1))

@@ -1,22 +1,12 @@
--- What the functions of the chain say: a lead and a next animal in numbers, the words of a chain, and a lent cell.
-use Prim.Native.Nat.{ℕ, zero, suc, _-_, _≤_}
-use mathlib.Core.Path.{_≡_}
+-- What the functions of the chain say: a lead and a next animal in numbers, and the words of a chain.
+use Prim.Native.Nat.{ℕ, zero, suc}
 use mathlib.Core.Bool.{Bool, true, false}
 use mathlib.Core.Option.{Option, none, some}
 use mathlib.Core.List.{List, map}
-use lib.ListN.{length, take, drop}
-use lib.Dec.{leb}
+use lib.ListN.{take}
 use Rattle.journeys.specs.Journey.{Contact}
 use Rattle.words.specs.Words.{contactWord}
-use Rattle.rules.specs.declared.Refusal.{Refusal}
-use Rattle.rules.specs.declared.Refusal.the-variants.{ChainBufferTooShort}
-use Rattle.rules.specs.Answers.{ensure}
-use Rattle.rules.specs.Layout.{animals, ticks, cellAt}
-use Rattle.rules.specs.Checks.{ensureTable}
-use Rattle.rules.specs.Adding.{ensurePair}
-use Rattle.rules.specs.Windows.{ensureWindow}
 use Rattle.rules.specs.Chains.{Lead, nowhere, there, leadsOn, Lowest, nobody, animal}
-use Rattle.cells.specs.Stored.{Stored}
 
 -- Whether a contact leads on, and the next departure; 0 at the goal.
 unfoldable pub leadOf : Bool → ℕ → Lead
@@ -38,12 +28,3 @@ wordsOf (some l) = some (map contactWord l)
 unfoldable pub collected : Bool → ℕ → List ℕ → Option (List ℕ)
 collected false k ws = none
 collected true k ws = some (take k ws)
-
--- Check 10, with a buffer of m words.
-abbrev pub roomCheck : List ℕ → ℕ → Option Refusal
-roomCheck T m = ensure (leb (animals T - 1) m) ChainBufferTooShort none
-
--- The checks of a chain, with a buffer of m words.
-unfoldable pub chainChecks : List ℕ → ℕ → ℕ → ℕ → ℕ → ℕ → Option Refusal
-chainChecks T u v first last m =
-    ensureTable T (ensurePair T u v (ensureWindow T first last (roomCheck T m)))

@@ -10,25 +10,11 @@ ghost use Rattle.rules.specs.Limits.{maxChain};
 ghost use Rattle.rules.specs.Layout.{animals};
 ghost use Rattle.rules.specs.Checks.{ValidTable};
 ghost use Rattle.rules.specs.Chains.{chainOf, chainAnswer, chainLeaves};
-ghost use Rattle.checks.specs.Verdicts.{verdictOf};
-ghost use Rattle.chains.specs.Found.{wordsOf, collected, roomCheck, chainChecks};
+ghost use Rattle.chains.specs.Found.{wordsOf, collected};
 use checks::Verdict;
 use rules::ChainAnswer;
-use rules::Refusal;
 use steps::Steps;
 use tables::Opening;
-
-// Check 10, of a buffer with room for so many words.
-fn judge_room(table: &[u32], room: usize) -> Verdict
-    requires { ⌜ 1 ≤ length (now table) ⌝ }
-    ensures { λ r. ⌜ r ≡ verdictOf (roomCheck (now (table .entry)) room) ⌝ }
-{
-    let n = words::animals_of(table[0]) as usize;
-    if room < n - 1 {
-        return Verdict::Refused(Refusal::ChainBufferTooShort);
-    }
-    Verdict::Passed
-}
 
 // Writes the first words of the chain to the front of the buffer.
 fn write_front(buffer: &mut [u32], from: [u32; Opening::MAX_CHAIN], count: usize)
@@ -37,29 +23,6 @@ fn write_front(buffer: &mut [u32], from: [u32; Opening::MAX_CHAIN], count: usize
 {
     for i in 0..count {
         buffer[i] = from[i];
-    }
-}
-
-// All checks of a chain, in their order, with a buffer of `room` words.
-fn judge_chain(table: &[u32], u: u32, v: u32, first: u32, last: u32, room: usize) -> Verdict
-    ensures { λ r. ⌜ r ≡ verdictOf (chainChecks (now (table .entry)) u v first last room) ⌝ }
-{
-    let whole = checks::judge_table(table);
-    match whole {
-        Verdict::Refused(r) => Verdict::Refused(r),
-        Verdict::Passed => {
-            let pair = checks::judge_pair(table, u, v);
-            match pair {
-                Verdict::Refused(r) => Verdict::Refused(r),
-                Verdict::Passed => {
-                    let window = checks::judge_window(table, first, last);
-                    match window {
-                        Verdict::Refused(r) => Verdict::Refused(r),
-                        Verdict::Passed => judge_room(table, room),
-                    }
-                }
-            }
-        }
     }
 }
 
@@ -97,7 +60,7 @@ pub fn chain(
     ensures { λ r. ⌜ r ≡ chainAnswer (now (table .entry)) u v first last (now (buffer .entry)) ⌝ }
     ensures { λ _. ⌜ now (buffer .exit) ≡ chainLeaves (now (table .entry)) u v first last (now (buffer .entry)) ⌝ }
 {
-    let verdict = judge_chain(table, u, v, first, last, buffer.len());
+    let verdict = checks::judge_chain(table, u, v, first, last, buffer);
     match verdict {
         Verdict::Refused(r) => ChainAnswer::Refused(r),
         Verdict::Passed => {

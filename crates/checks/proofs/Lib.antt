@@ -1,1 +1,3 @@
-pub mod Groups
+pub mod Judged
+pub mod Opened
+pub mod Logged

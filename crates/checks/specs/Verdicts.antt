@@ -4,6 +4,11 @@ use Rattle.rules.specs.declared.Refusal.{Refusal}
 use Rattle.checks.specs.declared.Verdict.{Verdict}
 use Rattle.checks.specs.declared.Verdict.the-variants.{Passed, Refused}
 
-abbrev pub verdictOf : Option Refusal → Verdict
+unfoldable pub verdictOf : Option Refusal → Verdict
 verdictOf none = Passed
 verdictOf (some r) = Refused r
+
+-- The refusal of a group, or the verdict of the checks behind it.
+unfoldable pub andThen : Verdict → Verdict → Verdict
+andThen Passed w = w
+andThen (Refused r) w = Refused r

@@ -1,20 +1,67 @@
-// The checks of a call, in groups: each judges one group and gives its verdict, reading only.
+// The checks of every call, in groups: one function judges one group, and a call's checks are its groups one after the other.
+// Nothing is written.
+mod groups;
+mod log;
+
 ghost use mathlib.Core.Path.{_≡_};
 ghost use mathlib.Core.Option.{none};
-ghost use Prim.Native.Nat.{_≤_};
 ghost use lib.ListN.{length};
-ghost use Rattle.rules.specs.Folds.{within};
+ghost use Rattle.journeys.specs.Journey.{contact};
+ghost use Rattle.rules.specs.Answers.{numberOf};
 ghost use Rattle.rules.specs.Checks.{ensureTable};
-ghost use Rattle.rules.specs.Adding.{ensurePair, ensureTick};
-ghost use Rattle.rules.specs.Windows.{lastArrival, ensureWindow, ensureMoment};
-ghost use Rattle.rules.specs.Questions.{ensureAnimal};
+ghost use Rattle.rules.specs.Opening.{openRefusal};
+ghost use Rattle.rules.specs.Adding.{ensurePair, addRefusal};
+ghost use Rattle.rules.specs.Windows.{ensureWindow};
+ghost use Rattle.rules.specs.Questions.{reachRefusal, momentRefusal, connectedRefusal, reachedRefusal};
+ghost use Rattle.rules.specs.Chains.{chainRefusal};
+ghost use Rattle.rules.specs.Reading.{readRefusal};
 ghost use Rattle.checks.specs.Verdicts.{verdictOf};
 use rules::Refusal;
+use tables::Made;
+use tables::Opening;
 
 // The verdict of a group of checks.
 pub enum Verdict {
     Passed,
     Refused(Refusal),
+}
+
+// Document 01's number of a refusal.
+pub fn number_of(refusal: Refusal) -> u32
+    ensures { λ r. ⌜ r ≡ numberOf refusal ⌝ }
+{
+    match refusal {
+        Refusal::AnimalsBeyondLimit => 1,
+        Refusal::TicksBeyondLimit => 2,
+        Refusal::CarryBeyondLimit => 3,
+        Refusal::WrongLength => 4,
+        Refusal::NotOpen => 5,
+        Refusal::NotWellFormed => 6,
+        Refusal::NoSuchAnimal => 7,
+        Refusal::SameAnimal => 8,
+        Refusal::TickOutOfRange => 9,
+        Refusal::ChainBufferTooShort => 10,
+        Refusal::NotALog => 11,
+        Refusal::NotAContact => 12,
+        Refusal::IllegalContact => 13,
+        Refusal::WrongEnd => 14,
+        Refusal::LogBufferTooShort => 15,
+        Refusal::TallyFull => 16,
+    }
+}
+
+// Checks 1, 2, 3 and 4, of an opening.
+pub fn judge_open(table: &[u32], animals: u32, ticks: u32, carry: u32) -> Verdict
+    ensures { λ r. ⌜ r ≡ verdictOf (openRefusal animals ticks carry (now (table .entry))) ⌝ }
+{
+    let made = Opening::new(animals, ticks, carry);
+    match made {
+        Made::Beyond(r) => Verdict::Refused(r),
+        Made::Within(opening) => groups::ensure(
+            table.len() == opening.table_length(),
+            Refusal::WrongLength,
+        ),
+    }
 }
 
 // Checks 5 and 6, which any call on an open table makes first.
@@ -24,91 +71,87 @@ pub fn judge_table(table: &[u32]) -> Verdict
     if !tables::is_open(table) {
         return Verdict::Refused(Refusal::NotOpen);
     }
-    if !tables::well_formed(table) {
-        return Verdict::Refused(Refusal::NotWellFormed);
-    }
-    Verdict::Passed
+    groups::ensure(tables::well_formed(table), Refusal::NotWellFormed)
 }
 
-// Checks 7 and 8, of two animals.
-pub fn judge_pair(table: &[u32], u: u32, v: u32) -> Verdict
-    requires { ⌜ 1 ≤ length (now table) ⌝ }
-    ensures { λ r. ⌜ r ≡ verdictOf (ensurePair (now (table .entry)) u v none) ⌝ }
+// All checks of an add: 5, 6, then 7, 8, then 9.
+pub fn judge_add(table: &[u32], u: u32, v: u32, t: u32) -> Verdict
+    ensures { λ r. ⌜ r ≡ verdictOf (addRefusal (now (table .entry)) (contact u v t)) ⌝ }
 {
-    let n = words::animals_of(table[0]);
-    if n <= u {
-        return Verdict::Refused(Refusal::NoSuchAnimal);
-    }
-    if n <= v {
-        return Verdict::Refused(Refusal::NoSuchAnimal);
-    }
-    if u == v {
-        return Verdict::Refused(Refusal::SameAnimal);
-    }
-    Verdict::Passed
+    let whole = judge_table(table);
+    let pair = groups::judge_pair(table, u, v);
+    let tick = groups::judge_tick(table, t);
+    groups::and_then(whole, groups::and_then(pair, tick))
 }
 
-// Check 9, of a contact's tick.
-pub fn judge_tick(table: &[u32], t: u32) -> Verdict
-    requires { ⌜ 1 ≤ length (now table) ⌝ }
-    ensures { λ r. ⌜ r ≡ verdictOf (ensureTick (now (table .entry)) t none) ⌝ }
+// The checks of a question about a pair and a window behind 5 and 6: 7, 8, then 9.
+pub fn judge_question(table: &[u32], u: u32, v: u32, first: u32, last: u32) -> Verdict
+    ensures { λ r. ⌜ r ≡ verdictOf (ensurePair (now (table .entry)) u v (ensureWindow (now (table .entry)) first last none)) ⌝ }
 {
-    if t < 1 {
-        return Verdict::Refused(Refusal::TickOutOfRange);
-    }
-    if words::ticks_of(table[0]) < t {
-        return Verdict::Refused(Refusal::TickOutOfRange);
-    }
-    Verdict::Passed
+    let pair = groups::judge_pair(table, u, v);
+    let window = groups::judge_window(table, first, last);
+    groups::and_then(pair, window)
 }
 
-// Whether the tick is from 1 to τ+δ, the last arrival.
-fn in_range(table: &[u32], t: u32) -> bool
-    requires { ⌜ 1 ≤ length (now table) ⌝ }
-    ensures { λ r. ⌜ r ≡ within 1 t (lastArrival (now (table .entry))) ⌝ }
+// All checks of reach and of a claimed chain: 5, 6, then 7, 8, then 9.
+pub fn judge_reach(table: &[u32], u: u32, v: u32, first: u32, last: u32) -> Verdict
+    ensures { λ r. ⌜ r ≡ verdictOf (reachRefusal (now (table .entry)) u v first last) ⌝ }
 {
-    if t == 0 {
-        return false;
-    }
-    let w = table[0];
-    t <= words::ticks_of(w) + words::carry_of(w)
+    let whole = judge_table(table);
+    let question = judge_question(table, u, v, first, last);
+    groups::and_then(whole, question)
 }
 
-// Check 9, of a window: both ticks in range, and the first not after the last.
-pub fn judge_window(table: &[u32], first: u32, last: u32) -> Verdict
-    requires { ⌜ 1 ≤ length (now table) ⌝ }
-    ensures { λ r. ⌜ r ≡ verdictOf (ensureWindow (now (table .entry)) first last none) ⌝ }
+// All checks of the earliest arrival and the latest departure: 5, 6, then 7, 8, then 9.
+pub fn judge_moment(table: &[u32], u: u32, v: u32, t: u32) -> Verdict
+    ensures { λ r. ⌜ r ≡ verdictOf (momentRefusal (now (table .entry)) u v t) ⌝ }
 {
-    if !in_range(table, first) {
-        return Verdict::Refused(Refusal::TickOutOfRange);
-    }
-    if !in_range(table, last) {
-        return Verdict::Refused(Refusal::TickOutOfRange);
-    }
-    if last < first {
-        return Verdict::Refused(Refusal::TickOutOfRange);
-    }
-    Verdict::Passed
+    let whole = judge_table(table);
+    let pair = groups::judge_pair(table, u, v);
+    let moment = groups::judge_moment(table, t);
+    groups::and_then(whole, groups::and_then(pair, moment))
 }
 
-// Check 9, of a single tick of a question.
-pub fn judge_moment(table: &[u32], t: u32) -> Verdict
-    requires { ⌜ 1 ≤ length (now table) ⌝ }
-    ensures { λ r. ⌜ r ≡ verdictOf (ensureMoment (now (table .entry)) t none) ⌝ }
+// All checks of connected: 5, 6, then 9.
+pub fn judge_connected(table: &[u32], first: u32, last: u32) -> Verdict
+    ensures { λ r. ⌜ r ≡ verdictOf (connectedRefusal (now (table .entry)) first last) ⌝ }
 {
-    if !in_range(table, t) {
-        return Verdict::Refused(Refusal::TickOutOfRange);
-    }
-    Verdict::Passed
+    let whole = judge_table(table);
+    let window = groups::judge_window(table, first, last);
+    groups::and_then(whole, window)
 }
 
-// Check 7, of one animal.
-pub fn judge_animal(table: &[u32], u: u32) -> Verdict
-    requires { ⌜ 1 ≤ length (now table) ⌝ }
-    ensures { λ r. ⌜ r ≡ verdictOf (ensureAnimal (now (table .entry)) u none) ⌝ }
+// All checks of the animals reached: 5, 6, then 7, then 9.
+pub fn judge_reached(table: &[u32], u: u32, first: u32, last: u32) -> Verdict
+    ensures { λ r. ⌜ r ≡ verdictOf (reachedRefusal (now (table .entry)) u first last) ⌝ }
 {
-    if words::animals_of(table[0]) <= u {
-        return Verdict::Refused(Refusal::NoSuchAnimal);
-    }
-    Verdict::Passed
+    let whole = judge_table(table);
+    let animal = groups::judge_animal(table, u);
+    let window = groups::judge_window(table, first, last);
+    groups::and_then(whole, groups::and_then(animal, window))
+}
+
+// All checks of a chain: 5, 6, then 7, 8, then 9, then 10.
+pub fn judge_chain(table: &[u32], u: u32, v: u32, first: u32, last: u32, buffer: &[u32]) -> Verdict
+    ensures { λ r. ⌜ r ≡ verdictOf (chainRefusal (now (table .entry)) u v first last (now (buffer .entry))) ⌝ }
+{
+    let whole = judge_table(table);
+    let pair = groups::judge_pair(table, u, v);
+    let window = groups::judge_window(table, first, last);
+    let room = groups::judge_room(table, buffer);
+    groups::and_then(
+        whole,
+        groups::and_then(pair, groups::and_then(window, room)),
+    )
+}
+
+// All checks of reading the log into the table: 11, then 4, then 12 and 13 of each word, then 14.
+pub fn judge_read(log: &[u32], table: &[u32]) -> Verdict
+    ensures { λ r. ⌜ r ≡ verdictOf (readRefusal (now (log .entry)) (now (table .entry))) ⌝ }
+{
+    let shape = groups::ensure(log::is_log(log), Refusal::NotALog);
+    let length = log::judge_length(log, table);
+    let each = log::judge_words(log);
+    let end = log::judge_end(log);
+    groups::and_then(shape, groups::and_then(length, groups::and_then(each, end)))
 }

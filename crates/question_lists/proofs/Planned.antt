@@ -11,15 +11,11 @@ use Rattle.rules.specs.declared.AskAnswer.{AskAnswer}
 use Rattle.rules.specs.declared.AskAnswer.the-variants.{Refused as AskRefused}
 use Rattle.rules.specs.declared.RecordAnswer.{RecordAnswer}
 use Rattle.rules.specs.declared.RecordAnswer.the-variants.{Refused as RecordRefused}
-use Rattle.rules.specs.declared.ListAnswer.the-variants.{Answered, Refused as ListRefused}
 use Rattle.rules.specs.Answers.{numberOf, unless}
-use Rattle.rules.specs.Checks.{ValidTable, ensureTable}
+use Rattle.rules.specs.Checks.{ValidTable}
 use Rattle.rules.specs.Questions.{reachAnswer}
 use Rattle.rules.specs.QuestionList.{recordAnswerOf, asked, listRefusal, listAnswer, listLeaves}
-use Rattle.checks.specs.declared.Verdict.{Verdict}
-use Rattle.checks.specs.declared.Verdict.the-variants.{Passed, Refused}
-use Rattle.checks.specs.Verdicts.{verdictOf}
-use Rattle.checks.proofs.Groups.{verdict-refused, verdict-passed, table-passed}
+use Rattle.checks.proofs.Judged.{valid-behind}
 use Rattle.question_lists.specs.Plans.{planFor}
 
 -- ---- one record
@@ -36,17 +32,6 @@ record-filled T q a b e f = λ i. record { from = q .from; to = q .to; first = q
 
 -- ---- the plan
 
-module _ (T : List ℕ) (n : ℕ) (v : Verdict) (p : v ≡ verdictOf (ensureTable T none)) where
-  -- A table refused answers no record.
-  pub plan-refused : (r : Refusal) → v ≡ Refused r → record { count = 0; answer = ListRefused r } ≡ planFor T n
-  unfolding planFor
-  plan-refused r q = rw (verdict-refused (ensureTable T none) r (sym p ∙ q)) refl
-
-  -- A table that passed answers all.
-  pub plan-all : v ≡ Passed → record { count = n; answer = Answered n } ≡ planFor T n
-  unfolding planFor
-  plan-all q = rw (verdict-passed (ensureTable T none) (sym p ∙ q)) refl
-
 -- No more records are answered than there are.
 pub count-within : (T : List ℕ) (n : ℕ) → planFor T n .count ≤ n
 unfolding planFor
@@ -59,7 +44,7 @@ count-within T n = go (listRefusal T)
 -- Where a record is answered, the table passed 5 and 6.
 pub count-passes : (T : List ℕ) (n i : ℕ) → i < planFor T n .count → ValidTable T
 unfolding planFor
-count-passes T n i h = table-passed T (verdictOf (listRefusal T)) refl (ap verdictOf (go (listRefusal T) h))
+count-passes T n i h = valid-behind T (go (listRefusal T) h) .0
   where
     go : (o : Option Refusal) → i < unless o n 0 → o ≡ none
     go none l = refl

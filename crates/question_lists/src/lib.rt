@@ -24,7 +24,7 @@ fn record_answer(reply: AskAnswer) -> RecordAnswer
         AskAnswer::Yes => RecordAnswer::Yes,
         AskAnswer::No => RecordAnswer::No,
         AskAnswer::Refused(r) => {
-            let number = engine::number_of(r);
+            let number = checks::number_of(r);
             RecordAnswer::Refused(number)
         }
     }

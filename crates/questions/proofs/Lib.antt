@@ -1,3 +1,3 @@
-pub mod Answered
+pub mod TickAnswers
 pub mod Passing
 pub mod Collecting

@@ -6,11 +6,11 @@ use mathlib.Core.List.{List, [], _∷_, map, List·Memᴰ, List·Memᴰ·head, L
 use Prim.Native.Nat.{ℕ, _+_, _-_, _≤_, _<_}
 use native.Mathlib.Omega.{arith}
 use lib.ListN.{length, getD, take, drop, replicate}
-use lib.Dec.{eqb}
-use borrow.Author.Tests.{eqb-true}
+use lib.Dec.{leb, eqb}
+use borrow.Author.Tests.{eqb-true, leb-true}
 use Rattle.journeys.specs.Journey.{Contact, Contacts, In}
 use Rattle.words.specs.Layout.{capacity, get, isOf}
-use Rattle.words.specs.Words.{contactOf, endLayout, loggedField, animalsOf, ticksOf, carryOf}
+use Rattle.words.specs.Words.{openingLayout, contactOf, endLayout, loggedField, animalsOf, ticksOf, carryOf}
 use Rattle.words.proofs.Fields.{get-bound}
 use Rattle.rules.specs.Limits.{maxTicks}
 use Rattle.rules.specs.Layout.{tableLength, tableWords, animals, ticks, carry}
@@ -19,7 +19,7 @@ use Rattle.rules.specs.Adding.{Legal}
 use Rattle.rules.specs.Fresh.{Fresh}
 use Rattle.rules.specs.CallLists.{engine, tableAfter}
 use Rattle.rules.specs.Reading.{between, loggedContacts, isTrueEnd, different, readRefusal}
-use Rattle.rules.proofs.Folds.{and-right, member-map}
+use Rattle.rules.proofs.Folds.{and-left, and-right, member-map}
 use Rattle.rules.proofs.Judged.{open-iff}
 use Rattle.rules.proofs.Decode.{table-animals, table-ticks, table-carry}
 use Rattle.rules.proofs.Sound.{table-sizes}
@@ -28,11 +28,11 @@ use Rattle.rules.proofs.Runs.{run-fresh}
 use Rattle.rules.proofs.Reading.{read-iff}
 use Rattle.building.specs.Stage.{MarkedTable}
 use Rattle.building.proofs.MarkedTables.{opened-table}
-use Rattle.reading.proofs.Checked.{lent-between}
+use Rattle.checks.proofs.Logged.{between-lent}
 
--- The count of an end word has 26 bits.
-logged-small : (w : ℕ) → get loggedField w < capacity loggedField
-logged-small w = get-bound loggedField w
+-- A log that no check refuses has two words or more.
+pub log-long : (L T : List ℕ) → readRefusal L T ≡ none → 2 ≤ length L
+log-long L T h = leb-true 2 (length L) (and-left (leb 2 (length L)) (isOf openingLayout (getD L 0 0)) (read-iff L T .0 h .log))
 
 -- What the first word says, with the three numbers as they were taken from it.
 module _ (L T : List ℕ) (h : readRefusal L T ≡ none) (n τ δ : ℕ) (p : n ≡ animals L) (q : τ ≡ ticks L) (r : δ ≡ carry L) where
@@ -49,20 +49,20 @@ module _ (L T : List ℕ) (h : readRefusal L T ≡ none) (end : ℕ) (s : end �
   -- The contacts of the words that are lent are those of the log.
   contacts-are : map contactOf (take (end - 1) (drop 1 L)) ≡ loggedContacts L
   unfolding loggedContacts
-  contacts-are = ap (map contactOf) (lent-between L end s)
+  contacts-are = ap (map contactOf) (between-lent L end s)
 
   -- They are counted.
   pub log-counted : (c : ℕ) → c ≡ different (map contactOf (take (end - 1) (drop 1 L))) → c ≡ different (loggedContacts L)
   log-counted c f = f ∙ ap different contacts-are
 
-  -- They are fewer than 2^26.
+  -- Their number fits the field of an end word.
   pub log-few : length (take (end - 1) (drop 1 L)) < capacity loggedField
   unfolding isTrueEnd
   log-few =
       let r = read-iff L T .0 h in
       let t = and-right (isOf endLayout (getD L (length L - 1) 0)) (eqb (get loggedField (getD L (length L - 1) 0)) (length (between L))) (r .true-end) in
       let c = eqb-true (get loggedField (getD L (length L - 1) 0)) (length (between L)) t in
-      omega (arith, c, logged-small (getD L (length L - 1) 0), ap length (lent-between L end s))
+      omega (arith, c, get-bound loggedField (getD L (length L - 1) 0), ap length (between-lent L end s))
 
   legal : (k : Contact) → List·Memᴰ k (loggedContacts L) → Legal (animals L) (ticks L) k
   unfolding loggedContacts
@@ -78,7 +78,7 @@ module _ (L T : List ℕ) (h : readRefusal L T ≡ none) (end : ℕ) (s : end �
     log-legal w m =
         let a : animals U ≡ animals L = ap animals e ∙ table-animals (animals L) (ticks L) (carry L) (table-sizes L) noIntervals in
         let b : ticks U ≡ ticks L = ap ticks e ∙ table-ticks (animals L) (ticks L) (carry L) (table-sizes L) noIntervals in
-        rw (a, b) (read-iff L T .0 h .contacts w (subst (List·Memᴰ w) (lent-between L end s) m) .1)
+        rw (a, b) (read-iff L T .0 h .contacts w (subst (List·Memᴰ w) (between-lent L end s) m) .1)
 
     -- Built over them, it is what opening the table and adding all leave.
     pub log-loaded : (V₁ V₂ : List ℕ) → getD V₁ 0 0 ≡ getD U 0 0 → Fresh (animals V₁) (ticks V₁) (carry V₁) (In (map contactOf (take (end - 1) (drop 1 L)))) V₂

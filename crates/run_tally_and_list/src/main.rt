@@ -22,7 +22,7 @@ fn print_number(n: u32) {
 // Writes `refused` and document 01's number.
 fn print_refusal(refusal: Refusal) {
     print(b"refused ");
-    print_number(engine::number_of(refusal));
+    print_number(checks::number_of(refusal));
 }
 
 // Writes what an add answered: new or known with the number of cells changed, or the refusal.

@@ -67,7 +67,7 @@ fn put_read(log: &[u32], table: &mut [u32], out: &mut [u8]) -> usize
 {
     let answer = engine::read_log(log, table);
     match answer {
-        ReadAnswer::Refused(r) => table_text::put_refused(engine::number_of(r), out),
+        ReadAnswer::Refused(r) => table_text::put_refused(checks::number_of(r), out),
         ReadAnswer::Read(k) => table_text::put_table(table, k, out),
     }
 }

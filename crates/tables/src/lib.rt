@@ -29,7 +29,7 @@ pub enum Made {
 }
 
 // Whether the number is from 1 to `most`.
-fn is_within(k: u32, most: u32) -> bool
+pub fn is_within(k: u32, most: u32) -> bool
     ensures { λ r. ⌜ r ≡ within 1 k most ⌝ }
 {
     if k < 1 {

@@ -1,17 +1,22 @@
--- `judge_moment` meets its contract: each return is a case of check 9.
+-- `judge_moment` meets its contract: its groups, one after the other.
+use Rattle.rules.specs.Questions.{momentRefusal}
+use Rattle.checks.proofs.Judged.{table-group, pair-group, chained}
 use borrow.Author.Needs.{needs}
-use Rattle.checks.proofs.Groups.{moment-beyond, moment-passed}
 use Rattle.checks.proofs.judge_moment.Statement.{statement}
 use Rattle.checks.proofs.judge_moment.Tie as tie
 
-in-range-requires : tie.Need-in-range-requires
-in-range-requires c κs = search needs
+-- All groups are judged.
+abbrev judged : tie.After-and-then2 → tie.After-judge-moment
+judged c = c .before .before
 
 returns : tie.Need-returns
-returns c = let a = c .before .before .before .args in moment-beyond (a .table .now) (a .t) (c .before .in-range .ensures) (c .if1 .taken)
-
-returns-2 : tie.Need-returns-2
-returns-2 c = let a = c .before .before .before .args in moment-passed (a .table .now) (a .t) (c .before .in-range .ensures) (c .if1 .left)
+unfolding momentRefusal
+returns c =
+    let j = judged c in
+    let p = j .before in
+    let a = p .before .before .before .args in
+    chained (table-group (a .table .now)) _ (p .before .judge-table .ensures) (chained (pair-group (a .table .now) (a .u) (a .v)) _ (p .judge-pair .ensures) (j .judge-moment .ensures) (c .before .and-then .ensures)) (c .and-then2 .ensures)
 
 pub judge-moment-spec : {M : Type 1} → statement M
-judge-moment-spec = tie.close (tie.spec in-range-requires returns returns-2)
+judge-moment-spec =
+    tie.close (tie.spec (λ c κs. search needs) (λ c κs. search needs) (λ c κs. search needs) (λ c κs. search needs) (λ c κs. search needs) returns)

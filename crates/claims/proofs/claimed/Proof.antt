@@ -1,35 +1,36 @@
 -- `claimed` meets its contract: each return is a case of the rule.
+use mathlib.Core.Path.{_≡_, refl, sym, _∙_}
+use mathlib.Core.Option.{none}
+use Rattle.rules.specs.Questions.{reachRefusal}
+use Rattle.rules.specs.Claims.{claimedAnswer}
+use Rattle.checks.proofs.Judged.{valid-behind, verdict-refused, verdict-passed}
 use borrow.Author.Needs.{needs}
-use Rattle.questions.proofs.Answered.{reach-accepted}
-use Rattle.claims.proofs.Answered.{claimed-refused, claimed-yes, claimed-no}
 use Rattle.claims.proofs.claimed.Statement.{statement}
 use Rattle.claims.proofs.claimed.Tie as tie
 
+-- The entry, from where the checks have passed.
+abbrev entry : tie.After-enum-told → tie.Start
+entry c = c .before .before .before .before .before
+
+-- Nothing is refused.
+passed : (c : tie.After-enum-told) → let a = entry c .args in reachRefusal (a .table .now) (a .u) (a .v) (a .first) (a .last) ≡ none
+passed c = verdict-passed (c .before .before .judge-reach .ensures) (c .enum-told .given .1)
+
 spells-requires : tie.Need-spells-requires
-spells-requires c κs =
-    let j = c .before .before in
-    let a = j .before .before .before .args in
-    reach-accepted (a .table .now) (a .u) (a .v) (a .first) (a .last) _ (j .judge-reach .ensures) (c .enum-told .given .1) .passes
+unfolding reachRefusal
+spells-requires c κs = valid-behind (entry c .args .table .now) (passed c) .0
 
 returns : tie.Need-returns
-returns c =
-    let h = c .before .before in
-    let j = h .before .before in
-    let a = j .before .before .before .args in
-    claimed-yes (a .table .now) (a .u) (a .v) (a .first) (a .last) (a .chain .now) _ (j .judge-reach .ensures) (h .enum-told .given .1) (c .before .spells .ensures) (c .if1 .taken)
+unfolding claimedAnswer
+returns c = let s = c .before in rw (passed (s .before), sym (s .spells .ensures) ∙ c .if1 .taken) refl
 
 returns-2 : tie.Need-returns-2
-returns-2 c =
-    let j = c .before .before .before in
-    let a = j .before .before .before .args in
-    claimed-refused (a .table .now) (a .u) (a .v) (a .first) (a .last) (a .chain .now) _ (j .judge-reach .ensures) _ (c .before .verdict .given .1)
+unfolding claimedAnswer
+returns-2 c = rw (verdict-refused (c .before .before .before .judge-reach .ensures) (c .before .verdict .given .1)) refl
 
 returns-3 : tie.Need-returns-3
-returns-3 c =
-    let h = c .before .before in
-    let j = h .before .before in
-    let a = j .before .before .before .args in
-    claimed-no (a .table .now) (a .u) (a .v) (a .first) (a .last) (a .chain .now) _ (j .judge-reach .ensures) (h .enum-told .given .1) (c .before .spells .ensures) (c .if1 .left)
+unfolding claimedAnswer
+returns-3 c = let s = c .before in rw (passed (s .before), sym (s .spells .ensures) ∙ c .if1 .left) refl
 
 pub claimed-spec : {M : Type 1} → statement M
 claimed-spec =

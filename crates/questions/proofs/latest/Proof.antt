@@ -1,29 +1,46 @@
 -- `latest` meets its contract: each return is a case of the rule.
+use mathlib.Core.Path.{_≡_, refl, sym, _∙_}
+use mathlib.Core.Option.{none}
+use Rattle.journeys.specs.Cell.{latestDeparture}
+use Rattle.rules.specs.Layout.{cellsOf}
+use Rattle.rules.specs.Questions.{momentRefusal, latestAnswer}
+use Rattle.checks.proofs.Judged.{PairOf, pair-behind, verdict-refused, verdict-passed}
+use Rattle.pair_cells.proofs.Read.{latest-from-one}
+use Rattle.questions.proofs.TickAnswers.{tick-nothing, tick-at}
 use borrow.Author.Needs.{needs}
-use Rattle.questions.proofs.Answered.{latest-refused, moment-accepted, latest-nothing, latest-at}
 use Rattle.questions.proofs.latest.Statement.{statement}
 use Rattle.questions.proofs.latest.Tie as tie
 
+-- Nothing is refused.
+passed : (c : tie.After-enum-told) → let a = c .before .before .before .before .args in momentRefusal (a .table .now) (a .u) (a .v) (a .last) ≡ none
+passed c = verdict-passed (c .before .before .judge-moment .ensures) (c .enum-told .given .1)
+
+-- Both are animals of a valid table.
+pair : (c : tie.After-enum-told) → let a = c .before .before .before .before .args in PairOf (a .table .now) (a .u) (a .v)
+unfolding momentRefusal
+pair c = let a = c .before .before .before .before .args in pair-behind (a .table .now) (a .u) (a .v) (passed c) .0
+
 last-departure-requires : tie.Need-last-departure-requires
-last-departure-requires c κs =
-    let a = c .before .before .before .before .args in
-    let p = moment-accepted (a .table .now) (a .u) (a .v) (a .last) _ (c .before .before .judge-moment .ensures) (c .enum-told .given .1) in
-    (p .passes, (p .from-below, p .to-below))
+last-departure-requires c κs = let p = pair c in (p .valid, (p .from-below, p .to-below))
 
 returns : tie.Need-returns
+unfolding latestAnswer
 returns c =
-    let h = c .before .before in
-    let a = h .before .before .before .before .args in
-    latest-nothing (a .table .now) (a .u) (a .v) (a .last) _ (h .before .before .judge-moment .ensures) (h .enum-told .given .1) _ (c .before .last-departure .ensures) (c .if1 .taken)
+    let f = c .before in
+    let p = pair (f .before) in
+    let a = f .before .before .before .before .before .args in
+    rw (passed (f .before)) (tick-nothing (latestDeparture (cellsOf (a .table .now) (a .u) (a .v)) (a .last)) (f .last-departure .ensures) (latest-from-one (a .table .now) (p .valid) (a .u) (a .v) (p .from-below) (p .to-below) (a .last)) (c .if1 .taken))
 
 returns-2 : tie.Need-returns-2
-returns-2 c = let a = c .before .before .before .before .before .args in latest-refused (a .table .now) (a .u) (a .v) (a .last) _ (c .before .before .before .judge-moment .ensures) _ (c .before .verdict .given .1)
+unfolding latestAnswer
+returns-2 c = rw (verdict-refused (c .before .before .before .judge-moment .ensures) (c .before .verdict .given .1)) refl
 
 returns-3 : tie.Need-returns-3
+unfolding latestAnswer
 returns-3 c =
-    let h = c .before .before in
-    let a = h .before .before .before .before .args in
-    latest-at (a .table .now) (a .u) (a .v) (a .last) _ (h .before .before .judge-moment .ensures) (h .enum-told .given .1) _ (c .before .last-departure .ensures) (c .if1 .left)
+    let f = c .before in
+    let a = f .before .before .before .before .before .args in
+    rw (passed (f .before)) (tick-at (latestDeparture (cellsOf (a .table .now) (a .u) (a .v)) (a .last)) (f .last-departure .ensures) (c .if1 .left))
 
 pub latest-spec : {M : Type 1} → statement M
 latest-spec =

@@ -1,17 +1,24 @@
 -- `reach` meets its contract: a table refused is the answer, and else the answer is the one behind its checks.
+use mathlib.Core.Path.{refl}
+use mathlib.Core.Option.{none}
+use Rattle.rules.specs.Adding.{ensurePair}
+use Rattle.rules.specs.Windows.{ensureWindow}
+use Rattle.rules.specs.Questions.{reachRefusal, reachAnswer}
+use Rattle.checks.proofs.Judged.{table-group, verdict-refused, table-valid}
 use borrow.Author.Needs.{needs}
-use Rattle.checks.proofs.Groups.{table-passed}
-use Rattle.questions.proofs.Answered.{reach-table-refused}
 use Rattle.questions.proofs.reach.Statement.{statement}
 use Rattle.questions.proofs.reach.Tie as tie
 
 reach-checked-requires : tie.Need-reach-checked-requires
-reach-checked-requires c κs = table-passed (c .before .before .before .before .args .table .now) _ (c .before .before .judge-table .ensures) (c .enum-told .given .1)
+reach-checked-requires c κs = let j = c .before .before in table-valid (j .before .before .args .table .now) (j .judge-table .ensures) (c .enum-told .given .1)
 
 returns : tie.Need-returns
+unfolding reachAnswer reachRefusal
 returns c =
-    let a = c .before .before .before .before .before .args in
-    reach-table-refused (a .table .now) (a .u) (a .v) (a .first) (a .last) _ (c .before .before .before .judge-table .ensures) _ (c .before .whole .given .1)
+    let j = c .before .before .before in
+    let a = j .before .before .args in
+    let T = a .table .now in
+    rw (table-group T .refuses _ (verdict-refused (j .judge-table .ensures) (c .before .whole .given .1)) (ensurePair T (a .u) (a .v) (ensureWindow T (a .first) (a .last) none))) refl
 
 pub reach-spec : {M : Type 1} → statement M
 reach-spec =

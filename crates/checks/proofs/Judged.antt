@@ -1,0 +1,176 @@
+-- Groups of checks: what the verdict of one group says of all checks behind it, and what the verdict of a call's checks says.
+use mathlib.Core.Path.{_≡_, refl, sym, ap, ap₂, _∙_}
+use mathlib.Core.Bool.{Bool, true, false, not, _&&_}
+use mathlib.Core.Option.{Option, none, some}
+use mathlib.Core.List.{List, [], _∷_}
+use Prim.Native.Nat.{ℕ, _+_, _-_, _≤_, _<_}
+use native.Mathlib.Omega.{arith}
+use lib.Dec.{ltb, leb, eqb}
+use lib.ListN.{length, getD}
+use borrow.Author.Tests.{ltb-true, leb-true}
+use Rattle.words.specs.Words.{animalsOf, ticksOf, carryOf}
+use Rattle.rules.specs.declared.Refusal.{Refusal}
+use Rattle.rules.specs.declared.Refusal.the-variants.{NotOpen, NotWellFormed, NoSuchAnimal, SameAnimal, TickOutOfRange, ChainBufferTooShort}
+use Rattle.rules.specs.Answers.{ensure}
+use Rattle.rules.specs.Layout.{animals, ticks}
+use Rattle.rules.specs.Checks.{isOpen, wellFormed, ValidTable, ensureTable}
+use Rattle.rules.specs.Adding.{ensurePair}
+use Rattle.rules.specs.Windows.{lastArrival, windowInRange, inOrder, ensureWindow}
+use Rattle.rules.specs.Questions.{ensureAnimal}
+use Rattle.rules.proofs.Folds.{and-left, and-right}
+use Rattle.rules.proofs.Judged.{ensure-iff}
+use Rattle.checks.specs.declared.Verdict.{Verdict}
+use Rattle.checks.specs.declared.Verdict.the-variants.{Passed, Refused}
+use Rattle.checks.specs.Verdicts.{verdictOf, andThen}
+
+-- ---- groups
+
+-- A group of checks refuses by itself, or leaves it to those behind it.
+pub record Group (f : Option Refusal → Option Refusal) : Type 0 where
+  pub refuses : (r : Refusal) → f none ≡ some r → (o : Option Refusal) → f o ≡ some r
+  pub passes : f none ≡ none → (o : Option Refusal) → f o ≡ o
+
+-- Nothing refused is no refusal.
+pub none-is-not-some : {A : Type 0} {r : Refusal} → none ≡ some r → A
+none-is-not-some e = absurd (let z : _≡_ {A = ℕ} 0 1 = cc in omega arith)
+
+-- A refusal is not nothing refused.
+pub some-is-not-none : {A : Type 0} {r : Refusal} → some r ≡ none → A
+some-is-not-none e = none-is-not-some (sym e)
+
+-- One check is a group.
+pub one-check : (b : Bool) (q : Refusal) → Group (ensure b q)
+one-check true q = record { refuses = λ r e o. none-is-not-some e; passes = λ e o. refl }
+one-check false q = record { refuses = λ r e o. e; passes = λ e o. some-is-not-none e }
+
+-- Two groups, one after the other, are a group.
+pub both-groups : {f g : Option Refusal → Option Refusal} → Group f → Group g → Group (λ o. f (g o))
+both-groups {f} {g} p q = record { refuses = refuses (f none) refl; passes = passes (f none) refl }
+  where
+    refuses : (a : Option Refusal) → f none ≡ a → (r : Refusal) → f (g none) ≡ some r → (o : Option Refusal) → f (g o) ≡ some r
+    refuses none h r e o = p .passes h (g o) ∙ q .refuses r (sym (p .passes h (g none)) ∙ e) o
+    refuses (some s) h r e o = p .refuses s h (g o) ∙ sym (p .refuses s h (g none)) ∙ e
+
+    passes : (a : Option Refusal) → f none ≡ a → f (g none) ≡ none → (o : Option Refusal) → f (g o) ≡ o
+    passes none h e o = p .passes h (g o) ∙ q .passes (sym (p .passes h (g none)) ∙ e) o
+    passes (some s) h e o = some-is-not-none (sym (p .refuses s h (g none)) ∙ e)
+
+pub table-group : (T : List ℕ) → Group (ensureTable T)
+table-group T = both-groups (one-check (isOpen T) NotOpen) (one-check (wellFormed T) NotWellFormed)
+
+pub pair-group : (T : List ℕ) (u v : ℕ) → Group (ensurePair T u v)
+pair-group T u v = both-groups (one-check (ltb u (animals T) && ltb v (animals T)) NoSuchAnimal) (one-check (not (eqb u v)) SameAnimal)
+
+pub window-group : (T : List ℕ) (first last : ℕ) → Group (ensureWindow T first last)
+window-group T first last = both-groups (one-check (windowInRange T first last) TickOutOfRange) (one-check (inOrder first last) TickOutOfRange)
+
+-- ---- verdicts
+
+-- The checks refused what the verdict refuses.
+pub verdict-refused : {o : Option Refusal} {v : Verdict} {r : Refusal} → v ≡ verdictOf o → v ≡ Refused r → o ≡ some r
+unfolding verdictOf
+verdict-refused {o} {v} {r} p q = go o (sym p ∙ q)
+  where
+    go : (o : Option Refusal) → verdictOf o ≡ Refused r → o ≡ some r
+    go none e = absurd (let z : _≡_ {A = ℕ} 0 1 = cc in omega arith)
+    go (some s) e = let h : s ≡ r = cc in ap some h
+
+-- Where the verdict is passed, the checks refused nothing.
+pub verdict-passed : {o : Option Refusal} {v : Verdict} → v ≡ verdictOf o → v ≡ Passed → o ≡ none
+unfolding verdictOf
+verdict-passed {o} {v} p q = go o (sym p ∙ q)
+  where
+    go : (o : Option Refusal) → verdictOf o ≡ Passed → o ≡ none
+    go none e = refl
+    go (some s) e = absurd (let z : _≡_ {A = ℕ} 0 1 = cc in omega arith)
+
+-- The law on a chain of groups: the verdict of a group, and then that of the checks behind it, is the verdict of them all.
+pub chained : {f : Option Refusal → Option Refusal} → Group f → (o : Option Refusal) {a w r : Verdict} → a ≡ verdictOf (f none) → w ≡ verdictOf o → r ≡ andThen a w → r ≡ verdictOf (f o)
+unfolding andThen verdictOf
+chained {f} g o {a} {w} {r} p q e = e ∙ ap (λ (x : Verdict). andThen x w) p ∙ ap (andThen (verdictOf (f none))) q ∙ go (f none) refl
+  where
+    go : (x : Option Refusal) → f none ≡ x → andThen (verdictOf x) (verdictOf o) ≡ verdictOf (f o)
+    go none h = ap verdictOf (sym (g .passes h o))
+    go (some s) h = ap verdictOf (sym (g .refuses s h o))
+
+-- ---- what a call that is not refused may rely on
+
+-- Where nothing is refused, the table passed 5 and 6, and nothing is refused behind them.
+pub valid-behind : (T : List ℕ) {o : Option Refusal} → ensureTable T o ≡ none → ValidTable T × (o ≡ none)
+valid-behind T {o} e =
+    let a = ensure-iff (isOpen T) NotOpen (ensure (wellFormed T) NotWellFormed o) .0 e in
+    let b = ensure-iff (wellFormed T) NotWellFormed o .0 (a .1) in
+    (record { opens = a .0; formed = b .0 }, b .1)
+
+-- On a table that passed 5 and 6, the checks are those behind them.
+pub behind-valid : (T : List ℕ) → ValidTable T → (o : Option Refusal) → ensureTable T o ≡ o
+behind-valid T p o = rw (p .opens, p .formed) refl
+
+-- A table that was judged passed is valid.
+pub table-valid : (T : List ℕ) {v : Verdict} → v ≡ verdictOf (ensureTable T none) → v ≡ Passed → ValidTable T
+table-valid T p q = valid-behind T (verdict-passed p q) .0
+
+-- Two animals of a valid table.
+pub record PairOf (T : List ℕ) (u v : ℕ) : Type 0 where
+  pub valid : ValidTable T
+  pub from-below : u < animals T
+  pub to-below : v < animals T
+
+-- Where nothing is refused, the two are animals of a valid table, and nothing is refused behind their check.
+pub pair-behind : (T : List ℕ) (u v : ℕ) {o : Option Refusal} → ensureTable T (ensurePair T u v o) ≡ none → PairOf T u v × (o ≡ none)
+pair-behind T u v {o} e =
+    let p = valid-behind T e in
+    let q = ensure-iff (ltb u (animals T) && ltb v (animals T)) NoSuchAnimal (ensure (not (eqb u v)) SameAnimal o) .0 (p .1) in
+    let s = ensure-iff (not (eqb u v)) SameAnimal o .0 (q .1) in (
+      record {
+        valid = p .0;
+        from-below = ltb-true u (animals T) (and-left (ltb u (animals T)) (ltb v (animals T)) (q .0));
+        to-below = ltb-true v (animals T) (and-right (ltb u (animals T)) (ltb v (animals T)) (q .0));
+      },
+      s .1,
+    )
+
+-- Where nothing is refused, the animal is one of a valid table.
+pub animal-behind : (T : List ℕ) (u : ℕ) (o : Option Refusal) → ensureTable T (ensureAnimal T u o) ≡ none → ValidTable T × (u < animals T)
+animal-behind T u o e =
+    let p = valid-behind T e in
+    (p .0, ltb-true u (animals T) (ensure-iff (ltb u (animals T)) NoSuchAnimal o .0 (p .1) .0))
+
+-- Where nothing is refused, the two are animals of a valid table and the buffer has room for the longest chain.
+pub room-behind : (T : List ℕ) (u v first last : ℕ) (B : List ℕ) → ensureTable T (ensurePair T u v (ensureWindow T first last (ensure (leb (animals T - 1) (length B)) ChainBufferTooShort none))) ≡ none
+    → PairOf T u v × (animals T - 1 ≤ length B)
+room-behind T u v first last B e =
+    let p = pair-behind T u v e in
+    let w = ensure-iff (windowInRange T first last) TickOutOfRange (ensure (inOrder first last) TickOutOfRange (ensure (leb (animals T - 1) (length B)) ChainBufferTooShort none)) .0 (p .1) in
+    let o = ensure-iff (inOrder first last) TickOutOfRange (ensure (leb (animals T - 1) (length B)) ChainBufferTooShort none) .0 (w .1) in
+    (p .0, leb-true (animals T - 1) (length B) (ensure-iff (leb (animals T - 1) (length B)) ChainBufferTooShort none .0 (o .1) .0))
+
+-- ---- the first and the last word of a list
+
+-- Of no words the first is 0.
+pub no-first : (l : List ℕ) → length l ≡ 0 → 0 ≡ getD l 0 0
+no-first [] e = refl
+no-first (w ∷ l) e = absurd (omega arith)
+
+-- Of no words the last is 0.
+pub no-last : (l : List ℕ) → length l ≡ 0 → 0 ≡ getD l (length l - 1) 0
+no-last [] e = refl
+no-last (w ∷ l) e = absurd (omega arith)
+
+-- ---- one check
+
+-- A check by a test that comes to the same.
+pub check-as : (q : Refusal) {b d : Bool} {v : Verdict} → v ≡ verdictOf (ensure b q none) → b ≡ d → v ≡ verdictOf (ensure d q none)
+check-as q {b} {d} p e = p ∙ ap (λ (x : Bool). verdictOf (ensure x q none)) e
+
+-- The number of animals that a first word says.
+pub animals-read : (T : List ℕ) {w n : ℕ} → n ≡ animalsOf w → w ≡ getD T 0 0 → n ≡ animals T
+animals-read T p e = p ∙ ap animalsOf e
+
+-- The number of ticks.
+pub ticks-read : (T : List ℕ) {w m : ℕ} → m ≡ ticksOf w → w ≡ getD T 0 0 → m ≡ ticks T
+ticks-read T p e = p ∙ ap ticksOf e
+
+-- The last arrival.
+pub last-read : (T : List ℕ) {w m d : ℕ} → m ≡ ticksOf w → d ≡ carryOf w → w ≡ getD T 0 0 → m + d ≡ lastArrival T
+last-read T p q e = ap₂ _+_ (p ∙ ap ticksOf e) (q ∙ ap carryOf e)

@@ -1,0 +1,14 @@
+-- `judge_question` meets its contract: its groups, one after the other.
+use Rattle.checks.proofs.Judged.{pair-group, chained}
+use borrow.Author.Needs.{needs}
+use Rattle.checks.proofs.judge_question.Statement.{statement}
+use Rattle.checks.proofs.judge_question.Tie as tie
+
+returns : tie.Need-returns
+returns c =
+    let a = c .before .before .before .before .args in
+    chained (pair-group (a .table .now) (a .u) (a .v)) _ (c .before .before .judge-pair .ensures) (c .before .judge-window .ensures) (c .and-then .ensures)
+
+pub judge-question-spec : {M : Type 1} → statement M
+judge-question-spec =
+    tie.close (tie.spec (λ c κs. search needs) (λ c κs. search needs) (λ c κs. search needs) returns)

@@ -1,0 +1,87 @@
+// The replies of the C interface: for each type of answer, which answer it is in the upper 32 bits and its number in the lower 32.
+ghost use mathlib.Core.Path.{_≡_};
+ghost use Rattle.rules.specs.Answers.{reply, numberOf, openReply, addReply, writeReply, readReply, askReply, chainReply};
+use rules::AddAnswer;
+use rules::AskAnswer;
+use rules::ChainAnswer;
+use rules::OpenAnswer;
+use rules::ReadAnswer;
+use rules::Refusal;
+use rules::WriteAnswer;
+
+// A reply: which answer, and its number.
+fn reply_of(which: u32, number: u32) -> u64
+    ensures { λ r. ⌜ r ≡ reply which number ⌝ }
+{
+    which as u64 * 0x1_0000_0000 + number as u64
+}
+
+// The reply of any call that is refused: 0 and the refusal's number.
+fn refused(refusal: Refusal) -> u64
+    ensures { λ r. ⌜ r ≡ reply 0 (numberOf refusal) ⌝ }
+{
+    reply_of(0, checks::number_of(refusal))
+}
+
+// Of opening: 1 opened.
+pub fn of_open(answer: OpenAnswer) -> u64
+    ensures { λ r. ⌜ r ≡ openReply answer ⌝ }
+{
+    match answer {
+        OpenAnswer::Opened => reply_of(1, 0),
+        OpenAnswer::Refused(r) => refused(r),
+    }
+}
+
+// Of adding: 1 new, 2 known, each with the number of cells changed.
+pub fn of_add(answer: AddAnswer) -> u64
+    ensures { λ r. ⌜ r ≡ addReply answer ⌝ }
+{
+    match answer {
+        AddAnswer::New(cells) => reply_of(1, cells),
+        AddAnswer::Known(cells) => reply_of(2, cells),
+        AddAnswer::Refused(r) => refused(r),
+    }
+}
+
+// Of reading a log: 1 read, with the number of different contacts.
+pub fn of_read(answer: ReadAnswer) -> u64
+    ensures { λ r. ⌜ r ≡ readReply answer ⌝ }
+{
+    match answer {
+        ReadAnswer::Read(contacts) => reply_of(1, contacts),
+        ReadAnswer::Refused(r) => refused(r),
+    }
+}
+
+// Of writing a log: 1 written, with the number of words.
+pub fn of_write(answer: WriteAnswer) -> u64
+    ensures { λ r. ⌜ r ≡ writeReply answer ⌝ }
+{
+    match answer {
+        WriteAnswer::Written(words) => reply_of(1, words),
+        WriteAnswer::Refused(r) => refused(r),
+    }
+}
+
+// Of a yes-or-no question: 1 yes, 2 no.
+pub fn of_ask(answer: AskAnswer) -> u64
+    ensures { λ r. ⌜ r ≡ askReply answer ⌝ }
+{
+    match answer {
+        AskAnswer::Yes => reply_of(1, 0),
+        AskAnswer::No => reply_of(2, 0),
+        AskAnswer::Refused(r) => refused(r),
+    }
+}
+
+// Of a chain: 1 a chain, with the number of its contacts, 2 no journey.
+pub fn of_chain(answer: ChainAnswer) -> u64
+    ensures { λ r. ⌜ r ≡ chainReply answer ⌝ }
+{
+    match answer {
+        ChainAnswer::Chain(contacts) => reply_of(1, contacts),
+        ChainAnswer::NoJourney => reply_of(2, 0),
+        ChainAnswer::Refused(r) => refused(r),
+    }
+}
