@@ -42,8 +42,5 @@ pub fn has_fitting(table: &[u32], u: u32, v: u32, first: u32, last: u32) -> bool
     requires { ⌜ (u < animals (now table)) × (v < animals (now table)) ⌝ }
     ensures { λ r. ⌜ r ≡ hasInside (window first last) (cellsOf (now (table .entry)) u v) ⌝ }
 {
-    let cell = span_of(table, u, v);
-    let start = cell.start;
-    let stop = cell.stop;
-    cells::has_fitting(&table[start..stop], first, last)
+    cells::has_fitting(tables::cell(table, u, v), first, last)
 }

@@ -8,8 +8,7 @@ use Rattle.rules.specs.declared.TickAnswer.the-variants.{At, Nothing}
 use Rattle.rules.specs.Answers.{tickAnswerOf}
 use Rattle.cells.specs.Stored.{orZero}
 use Prim.Native.Nat.{_+_}
-use Rattle.adding.proofs.Ticks.{Tick}
-use Rattle.pair_cells.proofs.Read.{tick-none, tick-some}
+use Rattle.tables.proofs.Ticks.{Tick, tick-none, tick-some}
 
 module _ (o : Option ℕ) {r : ℕ} (e : r ≡ orZero o) where
   -- A tick found as 0 is answered as none.

@@ -1,21 +1,19 @@
 -- `has_fitting` meets its contract: the cell read is the one from u to v.
 use borrow.Author.Needs.{needs}
+use Rattle.journeys.specs.Cell.{hasInside}
 use Rattle.rules.specs.Windows.{window}
-use Rattle.pair_cells.proofs.Read.{fitting-read}
+use Rattle.cells.proofs.Lent.{stored-in-use}
+use Rattle.tables.proofs.Stored.{cell-read, lent-stored}
 use Rattle.pair_cells.proofs.has_fitting.Statement.{statement}
 use Rattle.pair_cells.proofs.has_fitting.Tie as tie
 
 has-fitting-requires : tie.Need-has-fitting-requires
-has-fitting-requires c κs = c .before .span-of .ensures .stored
+has-fitting-requires c κs =
+    let s = c .before .before in
+    stored-in-use (lent-stored (s .args .table .now) (s .pre .0) (s .args .u) (s .args .v) (s .pre .1 .0) (s .pre .1 .1) (c .cell .ensures))
 
 returns : tie.Need-returns
-returns c =
-    let f = c .before .before in
-    let a = f .before .before .args in
-    fitting-read (a .table .now) (a .u) (a .v) (window (a .first) (a .last)) _ (f .span-of .ensures .words) (c .has-fitting .ensures)
+returns c = let a = c .before .before .before .args in cell-read (hasInside (window (a .first) (a .last))) (a .table .now) (a .u) (a .v) _ (c .before .cell .ensures) (c .has-fitting .ensures)
 
 pub has-fitting-spec : {M : Type 1} → statement M
-has-fitting-spec =
-    tie.close
-    (tie.spec
-    (λ c κs. search needs) (λ c. search needs) (λ c. search needs) (λ c. search needs) (λ c. search needs) has-fitting-requires returns)
+has-fitting-spec = tie.close (tie.spec (λ c κs. search needs) has-fitting-requires returns)

@@ -5,7 +5,7 @@ use Rattle.journeys.specs.Cell.{earliestArrival}
 use Rattle.rules.specs.Layout.{cellsOf}
 use Rattle.rules.specs.Questions.{momentRefusal, earliestAnswer}
 use Rattle.checks.proofs.Judged.{PairOf, pair-behind, verdict-refused, verdict-passed}
-use Rattle.pair_cells.proofs.Read.{earliest-from-one}
+use Rattle.tables.proofs.Ticks.{earliest-from-one}
 use Rattle.questions.proofs.TickAnswers.{tick-nothing, tick-at}
 use borrow.Author.Needs.{needs}
 use Rattle.questions.proofs.earliest.Statement.{statement}

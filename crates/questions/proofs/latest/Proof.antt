@@ -5,7 +5,7 @@ use Rattle.journeys.specs.Cell.{latestDeparture}
 use Rattle.rules.specs.Layout.{cellsOf}
 use Rattle.rules.specs.Questions.{momentRefusal, latestAnswer}
 use Rattle.checks.proofs.Judged.{PairOf, pair-behind, verdict-refused, verdict-passed}
-use Rattle.pair_cells.proofs.Read.{latest-from-one}
+use Rattle.tables.proofs.Ticks.{latest-from-one}
 use Rattle.questions.proofs.TickAnswers.{tick-nothing, tick-at}
 use borrow.Author.Needs.{needs}
 use Rattle.questions.proofs.latest.Statement.{statement}
