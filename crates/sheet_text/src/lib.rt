@@ -15,19 +15,24 @@ pub struct Sheet {
 }
 
 impl Sheet {
-    // The words of the largest log, and their bytes.
+    // The words of the largest log.
     pub const MOST_WORDS: usize = 4096;
 
+    // Its bytes.
     pub const MOST_BYTES: usize = 4 * Sheet::MOST_WORDS;
-    // The animals and the ticks of the largest table, and its words.
+
+    // The animals of the largest table.
     pub const MOST_ANIMALS: u32 = 8;
 
+    // Its ticks.
     pub const MOST_TICKS: u32 = 64;
 
+    // Its words.
     pub const MOST_TABLE_WORDS: usize = Sheet::MOST_ANIMALS as usize
         * Sheet::MOST_ANIMALS as usize
         * (Sheet::MOST_TICKS as usize + 1)
         + 1;
+
     // The bytes of a text.
     pub const MOST_TEXT: usize = 32768;
 }
