@@ -81,7 +81,7 @@ module _ {first : ℕ} (last : ℕ) {xs : List ℕ} {e r : ℕ} (g : Found depar
   row-fits n =
       let k : r ≡ frontBelow departureEnd first (cellOf xs) = found-is g in
       sym
-      (first-fits first last (cellOf xs) (g .stored .rising) (intervalOf 0) (omega (arith, k, found-length g, found-below g, n))
+      (first-fits first last (cellOf xs) (g .in-use .rising) (intervalOf 0) (omega (arith, k, found-length g, found-below g, n))
       ∙ ap (λ (i : ℕ). fitsWindow (getD (cellOf xs) i (intervalOf 0)) first last) (sym k)
       ∙ ap (λ (i : Interval). fitsWindow i first last) (row-is xs r (omega (arith, found-length g, found-below g, n))))
 

@@ -18,7 +18,7 @@ found : (c : tie.After-lower-bound-departure)
     (c .before .before .rows-end .result) (c .lower-bound-departure .result)
 found c =
     record {
-      stored = c .before .before .before .before .pre;
+      in-use = c .before .before .before .before .pre;
       lent = c .before .before .rows-end .ensures .0;
       place = c .lower-bound-departure .ensures;
     }
