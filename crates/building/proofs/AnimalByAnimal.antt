@@ -4,14 +4,13 @@ use mathlib.Core.Logic.{_≢_, _⊎_, inl, inr, ⊎-elim}
 use mathlib.Core.Option.{Option, none, some}
 use mathlib.Core.Bool.{Bool, true, false, cond, _&&_}
 use mathlib.Core.List.{List, [], _∷_, _++_, List·Memᴰ}
-use Prim.Native.Nat.{ℕ, zero, suc, _+_, _-_, _*_, _≤_, _<_}
+use Prim.Native.Nat.{ℕ, suc, _+_, _-_, _*_, _≤_, _<_}
 use native.Mathlib.Omega.{arith}
 use lib.ListN.{length, take, drop}
 use lib.Seq.{drop-drop}
 use lib.Dec.{leb, ltb, eqb}
 use borrow.Author.Tests.{lt-ltb, le-ltb}
 use Rattle.rules.specs.Limits.{maxArrival}
-use Rattle.rules.specs.Checks.{WellFormedBelow}
 use Rattle.journeys.specs.Journey.{Contact, contact, Interval, interval}
 use Rattle.journeys.specs.Cell.{Cell, WellFormedCell, latestDeparture}
 use Rattle.journeys.specs.Adding.{Cells, add, departureOf}

@@ -9,7 +9,7 @@ use native.Mathlib.Omega.{arith}
 use lib.ListN.{length, getD}
 use lib.Dec.{eqb}
 use borrow.Author.Tests.{le-leb, lt-leb, le-ltb, eq-eqb, ne-eqb}
-use Rattle.journeys.specs.Journey.{Contact, contact, In, Interval, interval, JourneyTo, single, onward, Journey}
+use Rattle.journeys.specs.Journey.{Contact, contact, In, Interval, interval, single, onward, Journey}
 use Rattle.journeys.specs.Cell.{Cell, Rising, earliestArrival, inside, hasInside, withoutContaining, putInOrder, enter}
 use Rattle.journeys.specs.Adding.{Cells, departureOf, arrivalOf, enterBoth, add, addAll, cellsOver}
 use Rattle.journeys.proofs.Tests.{Outcome, holds, fails, le-outcome}

@@ -1,6 +1,6 @@
 -- `column::append_for` meets its contract: each return is a case of the rule.
 use borrow.Author.Needs.{needs}
-use Prim.Native.Nat.{_+_, _*_, _≤_}
+use Prim.Native.Nat.{_+_, _≤_}
 use lib.ListN.{length}
 use native.Mathlib.Omega.{arith}
 use Rattle.rules.specs.Limits.{maxCellWords}
