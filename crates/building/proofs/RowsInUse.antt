@@ -82,11 +82,11 @@ pub counted : {n : ℕ} {xs : List ℕ} → InUse xs → n ≡ get rowsField (ge
 counted {n} {xs} s e =
     record { in-use = s; rows = e ∙ count-is xs s; fits = omega (arith, count-is xs s, s .fits); short = s .short }
 
--- The rows in use end within the words.
-pub rows-in-use-of : {xs : List ℕ} → InUse xs → RowsInUse xs
-rows-in-use-of {xs} s = record { within = omega (arith, count-is xs s, s .fits); rising = s .rising }
+-- ---- the latest departure
 
--- ---- the last row
+-- A search asks less.
+pub searchable : {xs : List ℕ} → InUse xs → RowsInUse xs
+searchable {xs} s = record { within = omega (arith, count-is xs s, s .fits); rising = s .rising }
 
 -- No interval of a rising cell arrives after the last.
 last-latest : (c : Cell) (z : Interval) (k : ℕ) → Rising c → length c ≡ k + 1 → (i : Interval) → List·Memᴰ i c → i .arrival ≤ getD c k z .arrival

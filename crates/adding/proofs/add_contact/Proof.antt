@@ -4,6 +4,7 @@ use mathlib.Core.Path.{ap}
 use native.Mathlib.Omega.{arith}
 use borrow.Author.Needs.{needs}
 use lib.ListN.{length, take, drop}
+use Rattle.cells.proofs.Lent.{stored-in-use}
 use Rattle.journeys.specs.Journey.{Contact, contact}
 use Rattle.grid.proofs.Places.{rest-lent}
 use Rattle.tables.proofs.Stored.{lent-stored}
@@ -74,7 +75,7 @@ stands-requires : tie.Need-stands-requires
 stands-requires c κs =
     let s = entry (numbers (departed (c .before .before))) in
     let f = ready s in
-    lent-stored (s .args .table .now) (f .valid) (s .args .u) (s .args .v) (f .from-below) (f .to-below) (c .cell .ensures)
+    stored-in-use (lent-stored (s .args .table .now) (f .valid) (s .args .u) (s .args .v) (f .from-below) (f .to-below) (c .cell .ensures))
 
 enter-all-cells-requires : tie.Need-enter-all-cells-requires
 enter-all-cells-requires c κs =

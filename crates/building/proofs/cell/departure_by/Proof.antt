@@ -2,7 +2,7 @@
 use borrow.Author.Needs.{needs}
 use mathlib.Core.Path.{_∙_}
 use native.Mathlib.Omega.{arith}
-use Rattle.building.proofs.RowsInUse.{Counted, counted, rows-in-use-of, latest-empty, latest-last}
+use Rattle.building.proofs.RowsInUse.{Counted, counted, searchable, latest-empty, latest-last}
 use Rattle.building.proofs.cell.departure_by.Statement.{statement}
 use Rattle.building.proofs.cell.departure_by.Tie as tie
 
@@ -35,7 +35,7 @@ returns-2 c =
     c .departure-of .ensures ∙ latest-last _ (rows (some a .before)) (some a .if1 .left) (omega (arith, a .arrival-of .ensures))
 
 latest-departure-requires : tie.Need-latest-departure-requires
-latest-departure-requires c κs = rows-in-use-of (start (some (c .before) .before) .pre)
+latest-departure-requires c κs = searchable (start (some (c .before) .before) .pre)
 
 pub departure-by-spec : {M : Type 1} → statement M
 departure-by-spec =
