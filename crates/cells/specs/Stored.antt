@@ -1,5 +1,5 @@
 -- One cell in lent memory: what the functions on it ask, what a search finds, and how a missing tick is said.
-use Prim.Native.Nat.{ℕ, suc, _-_, _≤_, _<_}
+use Prim.Native.Nat.{ℕ, suc, _+_, _-_, _≤_, _<_}
 use mathlib.Core.Path.{_≡_}
 use mathlib.Core.Bool.{cond}
 use mathlib.Core.Option.{Option, none, some}
@@ -13,7 +13,7 @@ use Rattle.words.specs.Words.{rowsField}
 use Rattle.rules.specs.Limits.{maxArrival, maxCellWords}
 use Rattle.rules.specs.Layout.{cellWords, cellOf}
 
--- The words are those of a rising cell with departures from 1 to the number of its rows and ends of 11 bits.
+-- The words are those of a rising cell with departures from 1 to the number of its rows and arrivals within their limit.
 pub record Stored (xs : List ℕ) : Type 0 where
   pub words : xs ≡ cellWords (length xs - 1) (cellOf xs)
   pub long : 1 ≤ length xs
@@ -23,9 +23,17 @@ pub record Stored (xs : List ℕ) : Type 0 where
   pub in-time : (i : Interval) → List·Memᴰ i (cellOf xs) → i .departure < length xs
   pub arrives : (i : Interval) → List·Memᴰ i (cellOf xs) → i .arrival ≤ maxArrival
 
+-- How many rows are in use, as the cell's first word says.
+abbrev pub rowsIn : List ℕ → ℕ
+rowsIn cell = get rowsField (getD cell 0 0)
+
+-- The rows in use end within the cell.
+abbrev pub RowsFit : List ℕ → Type 0
+RowsFit cell = rowsIn cell + 1 ≤ length cell
+
 -- The rows in use end within the words, and they rise; whatever stands behind them.
 pub record RowsInUse (xs : List ℕ) : Type 0 where
-  pub within : get rowsField (getD xs 0 0) < length xs
+  pub within : rowsIn xs < length xs
   pub rising : Rising (cellOf xs)
 
 -- The two ends of an interval, as functions.

@@ -11,30 +11,30 @@ use Rattle.rules.specs.declared.AddAnswer.{AddAnswer}
 use Rattle.rules.specs.declared.AddAnswer.the-variants.{Refused}
 use Rattle.rules.specs.declared.Tally.{Tally}
 use Rattle.rules.specs.Adding.{addAnswer, addLeaves}
-use Rattle.rules.specs.Counting.{tallySum, hasRoom, countedAnswer, countedLeaves, raised, countedTally}
+use Rattle.rules.specs.Counting.{fullTally, tallySum, hasRoom, countedAnswer, countedLeaves, raised, countedTally}
 use Rattle.rules.proofs.Counted.{has-room, full-tally, full-answer, full-leaves, room-tally, room-answer, room-leaves}
 
 -- A tally has room where its sum is below 4,294,967,295.
-pub room-passes : (t : Tally) (s : ℕ) → s ≡ tallySum t → s < 4294967295 → hasRoom t ≡ true
+pub room-passes : (t : Tally) (s : ℕ) → s ≡ tallySum t → s < fullTally → hasRoom t ≡ true
 room-passes t s e h = has-room t (omega arith)
 
 -- The three numbers of a tally with room sum to less than 4,294,967,295.
-pub room-left : (t : Tally) → hasRoom t ≡ true → t .new + t .known + t .refused < 4294967295
+pub room-left : (t : Tally) → hasRoom t ≡ true → t .new + t .known + t .refused < fullTally
 unfolding hasRoom tallySum
-room-left t e = ltb-true (t .new + t .known + t .refused) 4294967295 e
+room-left t e = ltb-true (t .new + t .known + t .refused) fullTally e
 
 module _ (t : Tally) (T : List ℕ) (k : Contact) (s : ℕ) (e : s ≡ tallySum t) where
   -- A full tally refuses with 16, and all stays as it was.
-  pub full-refused : 4294967295 ≤ s → (t ≡ countedTally t T k) × ((Refused TallyFull ≡ countedAnswer t T k) × (T ≡ countedLeaves t T k))
+  pub full-refused : fullTally ≤ s → (t ≡ countedTally t T k) × ((Refused TallyFull ≡ countedAnswer t T k) × (T ≡ countedLeaves t T k))
   full-refused h =
-      let f : 4294967295 ≤ tallySum t = omega arith in
+      let f : fullTally ≤ tallySum t = omega arith in
       (sym (full-tally t T k f), (sym (full-answer t T k f), sym (full-leaves t T k f)))
 
   -- With room the answer and the words are those of the uncounted add, and the number that counts the answer is raised.
-  pub room-counted : s < 4294967295 → (r : Tally) (a : AddAnswer) (U : List ℕ) → r ≡ raised a t → a ≡ addAnswer T k → U ≡ addLeaves T k
+  pub room-counted : s < fullTally → (r : Tally) (a : AddAnswer) (U : List ℕ) → r ≡ raised a t → a ≡ addAnswer T k → U ≡ addLeaves T k
       → (r ≡ countedTally t T k) × ((a ≡ countedAnswer t T k) × (U ≡ countedLeaves t T k))
   room-counted h r a U p q g =
-      let f : tallySum t < 4294967295 = omega arith in (
+      let f : tallySum t < fullTally = omega arith in (
         p ∙ ap (λ (b : AddAnswer). raised b t) q ∙ sym (room-tally t T k f),
         (q ∙ sym (room-answer t T k f), g ∙ sym (room-leaves t T k f)),
       )

@@ -7,6 +7,9 @@ use rules::AddAnswer;
 use rules::Refusal;
 use rules::Tally;
 
+// A tally whose numbers sum to this or more has no room for another call.
+pub const FULL_TALLY: u64 = 4_294_967_295;
+
 // What a counted add gives: its answer, and the tally afterwards.
 pub struct Counted {
     pub tally: Tally,
@@ -50,7 +53,7 @@ pub fn add_counted(table: &mut [u32], tally: Tally, u: u32, v: u32, t: u32) -> C
     ensures { λ r. ⌜ r .answer ≡ countedAnswer tally (now (table .entry)) (contact u v t) ⌝ }
     ensures { λ _. ⌜ now (table .exit) ≡ countedLeaves tally (now (table .entry)) (contact u v t) ⌝ }
 {
-    if sum_of(tally) >= 4_294_967_295 {
+    if sum_of(tally) >= FULL_TALLY {
         return Counted {
             tally,
             answer: AddAnswer::Refused(Refusal::TallyFull),

@@ -40,35 +40,35 @@ module _ {s n at k : ℕ} (w : Through s n at k) where
 -- ---- a test of every number
 
 -- The first k of n numbers passed the test p.
-pub record Passed (p : ℕ → Bool) (n k : ℕ) : Type 0 where
+pub record Tested (p : ℕ → Bool) (n k : ℕ) : Type 0 where
   pub below : k ≤ n
   pub all : allBelow p k ≡ true
 
 -- No number is tested yet.
-pub passed-start : (p : ℕ → Bool) (n : ℕ) → Passed p n 0
-passed-start p n = record { below = omega arith; all = unfold allBelow in refl }
+pub tested-start : (p : ℕ → Bool) (n : ℕ) → Tested p n 0
+tested-start p n = record { below = omega arith; all = unfold allBelow in refl }
 
-module _ {p : ℕ → Bool} {n k : ℕ} (w : Passed p n k) where
+module _ {p : ℕ → Bool} {n k : ℕ} (w : Tested p n k) where
   -- A number that passes the test is one more.
-  pub passed-turn : {r : Bool} → k < n → r ≡ p k → not r ≡ false → Passed p n (k + 1)
+  pub tested-turn : {r : Bool} → k < n → r ≡ p k → not r ≡ false → Tested p n (k + 1)
   unfolding allBelow
-  passed-turn {r} t e f =
+  tested-turn {r} t e f =
       record {
         below = omega arith;
         all = rw (add-one k) (and-intro (allBelow p k) (p k) (w .all) (sym e ∙ not-false r f));
       }
 
   -- Any other ends the test.
-  pub passed-stop : {r : Bool} → k < n → r ≡ p k → not r ≡ true → false ≡ allBelow p n
-  passed-stop {r} t e f = go (allBelow p n) (λ h. below-all p n h k t)
+  pub tested-stop : {r : Bool} → k < n → r ≡ p k → not r ≡ true → false ≡ allBelow p n
+  tested-stop {r} t e f = go (allBelow p n) (λ h. below-all p n h k t)
     where
       go : (b : Bool) → (b ≡ true → p k ≡ true) → false ≡ b
       go true g = sym (not-true r f) ∙ e ∙ g refl
       go false g = refl
 
   -- No number is left to test.
-  pub passed-end : n ≤ k → true ≡ allBelow p n
-  passed-end h = let e : k ≡ n = omega (arith, w .below) in sym (w .all) ∙ ap (allBelow p) e
+  pub tested-end : n ≤ k → true ≡ allBelow p n
+  tested-end h = let e : k ≡ n = omega (arith, w .below) in sym (w .all) ∙ ap (allBelow p) e
 
 -- Tests that agree on every number below n hold of all of them alike.
 pub all-same : (p q : ℕ → Bool) (n : ℕ) → ((k : ℕ) → k < n → p k ≡ q k) → allBelow p n ≡ allBelow q n

@@ -1,3 +1,3 @@
 pub mod TickAnswers
-pub mod Passing
+pub mod Joined
 pub mod Collecting

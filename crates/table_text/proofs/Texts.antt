@@ -12,10 +12,10 @@ use Rattle.rules.specs.Logs.{heldContacts}
 use Rattle.rules.specs.Sheet.{decimal, space, newline, intervalText, intervalsText, cellText, firstLine, tableText}
 use Rattle.rules.proofs.Folds.{flat-same}
 use Rattle.grid.specs.Parts.{part}
-use Rattle.grid.specs.RowsInUse.{rowsIn}
+use Rattle.cells.specs.Stored.{rowsIn}
 use Rattle.grid.proofs.Places.{cell-in, cell-of-row}
-use Rattle.grid.proofs.RowsInUse.{rowsFrom, RowLoop, rows-all, rows-next, rows-end, rows-count}
-use Rattle.grid.proofs.TableRead.{Read}
+use Rattle.cells.proofs.RowLoop.{rowsFrom, RowLoop, rows-all, rows-next, rows-end, rows-count}
+use Rattle.tables.proofs.TableRead.{Read}
 use Rattle.cells.specs.Stored.{Stored}
 use Rattle.cells.proofs.Lent.{count-fits}
 use Rattle.table_text.specs.Lines.{cellLine, linesFrom}

@@ -15,19 +15,31 @@ use Rattle.chains.proofs.chain.Tie as tie
 
 -- ---- places
 
--- The entry, from where the checks have passed.
-abbrev entry : tie.After-enum-told → tie.Start
-entry c = c .before .before .before .before .before .before
+-- The checks are judged.
+abbrev judged : tie.After-enum-told → tie.After-judge-chain
+judged c = c .before .before
 
--- The chain is looked for.
+-- The entry.
+abbrev entry : tie.After-enum-told → tie.Start
+entry c = judged c .before .before .before .before
+
+-- The words are written.
+abbrev written : tie.After-struct-known2 → tie.After-write-front
+written c = c .before .before .before
+
+-- A chain was found.
+abbrev kept : tie.After-struct-known2 → tie.Else1
+kept c = written c .before .before .before
+
+-- The chain was looked for.
 abbrev found : tie.After-struct-known2 → tie.After-find
-found c = c .before .before .before .before .before .before .before .before
+found c = kept c .before .before
 
 -- ---- facts
 
 -- Nothing is refused.
 passed : (c : tie.After-enum-told) → let a = entry c .args in chainRefusal (a .table .now) (a .u) (a .v) (a .first) (a .last) (a .buffer .now) ≡ none
-passed c = verdict-passed (c .before .before .judge-chain .ensures) (c .enum-told .given .1)
+passed c = verdict-passed (judged c .judge-chain .ensures) (c .enum-told .given .1)
 
 -- Both are animals of a valid table, and the buffer has room for the longest chain.
 accepted : (c : tie.After-enum-told) → let a = entry c .args in PairOf (a .table .now) (a .u) (a .v) × (animals (a .table .now) - 1 ≤ length (a .buffer .now))
@@ -63,13 +75,11 @@ returns-2 c = let e = verdict-refused (c .before .before .before .judge-chain .e
 
 returns-3 : tie.Need-returns-3
 returns-3 c =
-    let w = c .before .before .before in
-    let e = w .before .before .before in
     let f = found c in
     let a = entry (f .before) .args in
     let r = f .find .ensures .1 in
-    chain-found (a .table .now) (a .u) (a .v) (a .first) (a .last) (a .buffer .now) (passed (f .before)) _ _ _ (f .find .ensures .0) (e .if1 .left)
-    (omega (arith, table-sizes (a .table .now) .n-high, r .0, r .1)) _ (w .write-front .ensures)
+    chain-found (a .table .now) (a .u) (a .v) (a .first) (a .last) (a .buffer .now) (passed (f .before)) _ _ _ (f .find .ensures .0) (kept c .if1 .left)
+    (omega (arith, table-sizes (a .table .now) .n-high, r .0, r .1)) _ (written c .write-front .ensures)
 
 pub chain-spec : {M : Type 1} → statement M
 chain-spec =

@@ -8,13 +8,17 @@ use borrow.Author.Needs.{needs}
 use Rattle.claims.proofs.claimed.Statement.{statement}
 use Rattle.claims.proofs.claimed.Tie as tie
 
--- The entry, from where the checks have passed.
+-- The checks are judged.
+abbrev judged : tie.After-enum-told → tie.After-judge-reach
+judged c = c .before .before
+
+-- The entry.
 abbrev entry : tie.After-enum-told → tie.Start
-entry c = c .before .before .before .before .before
+entry c = judged c .before .before .before
 
 -- Nothing is refused.
 passed : (c : tie.After-enum-told) → let a = entry c .args in reachRefusal (a .table .now) (a .u) (a .v) (a .first) (a .last) ≡ none
-passed c = verdict-passed (c .before .before .judge-reach .ensures) (c .enum-told .given .1)
+passed c = verdict-passed (judged c .judge-reach .ensures) (c .enum-told .given .1)
 
 spells-requires : tie.Need-spells-requires
 unfolding reachRefusal

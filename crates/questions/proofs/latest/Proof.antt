@@ -11,14 +11,18 @@ use borrow.Author.Needs.{needs}
 use Rattle.questions.proofs.latest.Statement.{statement}
 use Rattle.questions.proofs.latest.Tie as tie
 
+-- The entry, from where the checks have passed.
+abbrev entry : tie.After-enum-told → tie.Start
+entry c = c .before .before .before .before
+
 -- Nothing is refused.
-passed : (c : tie.After-enum-told) → let a = c .before .before .before .before .args in momentRefusal (a .table .now) (a .u) (a .v) (a .last) ≡ none
+passed : (c : tie.After-enum-told) → let a = entry c .args in momentRefusal (a .table .now) (a .u) (a .v) (a .last) ≡ none
 passed c = verdict-passed (c .before .before .judge-moment .ensures) (c .enum-told .given .1)
 
 -- Both are animals of a valid table.
-pair : (c : tie.After-enum-told) → let a = c .before .before .before .before .args in PairOf (a .table .now) (a .u) (a .v)
+pair : (c : tie.After-enum-told) → let a = entry c .args in PairOf (a .table .now) (a .u) (a .v)
 unfolding momentRefusal
-pair c = let a = c .before .before .before .before .args in pair-behind (a .table .now) (a .u) (a .v) (passed c) .0
+pair c = let a = entry c .args in pair-behind (a .table .now) (a .u) (a .v) (passed c) .0
 
 last-departure-requires : tie.Need-last-departure-requires
 last-departure-requires c κs = let p = pair c in (p .valid, (p .from-below, p .to-below))
@@ -28,7 +32,7 @@ unfolding latestAnswer
 returns c =
     let f = c .before in
     let p = pair (f .before) in
-    let a = f .before .before .before .before .before .args in
+    let a = entry (f .before) .args in
     rw (passed (f .before)) (tick-nothing (latestDeparture (cellsOf (a .table .now) (a .u) (a .v)) (a .last)) (f .last-departure .ensures) (latest-from-one (a .table .now) (p .valid) (a .u) (a .v) (p .from-below) (p .to-below) (a .last)) (c .if1 .taken))
 
 returns-2 : tie.Need-returns-2
@@ -39,7 +43,7 @@ returns-3 : tie.Need-returns-3
 unfolding latestAnswer
 returns-3 c =
     let f = c .before in
-    let a = f .before .before .before .before .before .args in
+    let a = entry (f .before) .args in
     rw (passed (f .before)) (tick-at (latestDeparture (cellsOf (a .table .now) (a .u) (a .v)) (a .last)) (f .last-departure .ensures) (c .if1 .left))
 
 pub latest-spec : {M : Type 1} → statement M

@@ -8,7 +8,7 @@ use lib.ListN.{length, take, drop}
 use Rattle.rules.specs.Folds.{flat}
 use Rattle.rules.specs.Sheet.{firstLine, tableText}
 use Rattle.grid.proofs.Places.{rest-lent}
-use Rattle.grid.proofs.TableRead.{Read, table-opened}
+use Rattle.tables.proofs.TableRead.{Read, table-opened}
 use Rattle.tables.proofs.Stored.{lent-cells}
 use Rattle.table_text.specs.Lines.{linesFrom}
 use Rattle.table_text.proofs.Writing.{Writing, back, inside, fits-whole, first, fits-last, last, end}

@@ -6,7 +6,7 @@ use native.Mathlib.Nat.{mul-le-mul}
 use mathlib.Core.Path.{_≡_}
 use lib.ListN.{length}
 use Rattle.grid.proofs.Places.{lent-length}
-use Rattle.grid.proofs.Reading.{Through, through-start, through-room, through-lent, through-turn, Passed, passed-start, passed-turn, passed-stop, passed-end}
+use Rattle.grid.proofs.Reading.{Through, through-start, through-room, through-lent, through-turn, Tested, tested-start, tested-turn, tested-stop, tested-end}
 use Rattle.tables.specs.Cells.{cellsFromAt, allCellsWellFormed}
 use Rattle.tables.proofs.Cells.{from-tested}
 use Rattle.tables.proofs.all_cells_well_formed.Statement.{statement}
@@ -14,7 +14,7 @@ use Rattle.tables.proofs.all_cells_well_formed.Tie as tie
 use Rattle.rules.specs.Limits.{maxCellWords}
 
 abbrev Inv-loop : tie.InvT-loop
-Inv-loop body n ticks carry width at₀ u₀ at u = Through (n * (ticks + 1)) n at u × Passed (cellsFromAt ticks carry n body) n u
+Inv-loop body n ticks carry width at₀ u₀ at u = Through (n * (ticks + 1)) n at u × Tested (cellsFromAt ticks carry n body) n u
 
 abbrev μ-loop : tie.MeasureT-loop
 μ-loop body n ticks carry width at₀ u₀ at u = n - u
@@ -30,7 +30,7 @@ mul-width c =
     omega (arith, mul-le-mul (s .pre .0) h)
 
 loop-holds : tie.Need-loop-holds Inv-loop μ-loop
-loop-holds c = (through-start _ _, passed-start _ _)
+loop-holds c = (through-start _ _, tested-start _ _)
 
 -- The cells from the next animal lie inside the body.
 room : (c : tie.In-loop Inv-loop μ-loop) → let a = entry c .args in c .before .loop .at + a .n * (a .ticks + 1) ≤ length (a .body .now)
@@ -58,18 +58,18 @@ unfolding allCellsWellFormed
 returns c =
     let f = c .before in
     let t = f .before .before in
-    passed-stop (t .before .loop .inv .1) (t .loop-test .taken) (tested f) (c .if1 .taken)
+    tested-stop (t .before .loop .inv .1) (t .loop-test .taken) (tested f) (c .if1 .taken)
 
 loop-again : tie.Need-loop-again Inv-loop μ-loop
 loop-again c =
     let f = c .before in
     let t = f .before .before in
     let i = t .before .loop .inv in
-    (through-turn (i .0) (t .loop-test .taken), passed-turn (i .1) (t .loop-test .taken) (tested f) (c .if1 .left))
+    (through-turn (i .0) (t .loop-test .taken), tested-turn (i .1) (t .loop-test .taken) (tested f) (c .if1 .left))
 
 returns-2 : tie.Need-returns-2 Inv-loop μ-loop
 unfolding allCellsWellFormed
-returns-2 c = passed-end (c .before .loop .inv .1) (c .loop-test .left)
+returns-2 c = tested-end (c .before .loop .inv .1) (c .loop-test .left)
 
 pub all-cells-well-formed-spec : {M : Type 1} → statement M
 all-cells-well-formed-spec =

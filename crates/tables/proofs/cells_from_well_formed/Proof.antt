@@ -5,14 +5,14 @@ use Prim.Native.Nat.{_+_, _-_, _≤_}
 use mathlib.Core.Path.{_≡_}
 use lib.ListN.{length}
 use Rattle.grid.proofs.Places.{lent-length}
-use Rattle.grid.proofs.Reading.{Through, through-start, through-room, through-lent, through-turn, Passed, passed-start, passed-turn, passed-stop, passed-end}
+use Rattle.grid.proofs.Reading.{Through, through-start, through-room, through-lent, through-turn, Tested, tested-start, tested-turn, tested-stop, tested-end}
 use Rattle.tables.specs.Cells.{cellOfWellFormed, cellsFromWellFormed}
 use Rattle.tables.proofs.Cells.{cell-tested, most-bound}
 use Rattle.tables.proofs.cells_from_well_formed.Statement.{statement}
 use Rattle.tables.proofs.cells_from_well_formed.Tie as tie
 
 abbrev Inv-loop : tie.InvT-loop
-Inv-loop cells u n ticks carry size at₀ v₀ at v = Through (ticks + 1) n at v × Passed (cellOfWellFormed ticks carry u cells) n v
+Inv-loop cells u n ticks carry size at₀ v₀ at v = Through (ticks + 1) n at v × Tested (cellOfWellFormed ticks carry u cells) n v
 
 abbrev μ-loop : tie.MeasureT-loop
 μ-loop cells u n ticks carry size at₀ v₀ at v = n - v
@@ -22,7 +22,7 @@ abbrev entry : tie.In-loop Inv-loop μ-loop → tie.Start Inv-loop μ-loop
 entry c = c .before .before .before
 
 loop-holds : tie.Need-loop-holds Inv-loop μ-loop
-loop-holds c = (through-start _ _, passed-start _ _)
+loop-holds c = (through-start _ _, tested-start _ _)
 
 -- The next cell lies inside the words.
 room : (c : tie.In-loop Inv-loop μ-loop) → let a = entry c .args in c .before .loop .at + (a .ticks + 1) ≤ length (a .cells .now)
@@ -55,18 +55,18 @@ unfolding cellsFromWellFormed
 returns c =
     let f = c .before in
     let t = f .before .before .before in
-    passed-stop (t .before .loop .inv .1) (t .loop-test .taken) (tested f) (c .if1 .taken)
+    tested-stop (t .before .loop .inv .1) (t .loop-test .taken) (tested f) (c .if1 .taken)
 
 loop-again : tie.Need-loop-again Inv-loop μ-loop
 loop-again c =
     let f = c .before in
     let t = f .before .before .before in
     let i = t .before .loop .inv in
-    (through-turn (i .0) (t .loop-test .taken), passed-turn (i .1) (t .loop-test .taken) (tested f) (c .if1 .left))
+    (through-turn (i .0) (t .loop-test .taken), tested-turn (i .1) (t .loop-test .taken) (tested f) (c .if1 .left))
 
 returns-2 : tie.Need-returns-2 Inv-loop μ-loop
 unfolding cellsFromWellFormed
-returns-2 c = passed-end (c .before .loop .inv .1) (c .loop-test .left)
+returns-2 c = tested-end (c .before .loop .inv .1) (c .loop-test .left)
 
 pub cells-from-well-formed-spec : {M : Type 1} → statement M
 cells-from-well-formed-spec =

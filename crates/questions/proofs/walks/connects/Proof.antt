@@ -5,12 +5,13 @@ use native.Mathlib.Omega.{arith}
 use borrow.Author.Needs.{needs}
 use Rattle.rules.proofs.Sound.{opens-length}
 use Rattle.questions.specs.Walks.{joinsAll}
-use Rattle.questions.proofs.Passing.{Passed, passed-start, passed-turn, passed-stop, passed-end, all-connected}
+use Rattle.grid.proofs.Reading.{Tested, tested-start, tested-turn, tested-stop, tested-end}
+use Rattle.questions.proofs.Joined.{all-connected}
 use Rattle.questions.proofs.walks.connects.Statement.{statement}
 use Rattle.questions.proofs.walks.connects.Tie as tie
 
 abbrev Inv-loop : tie.InvT-loop
-Inv-loop table first last n u₀ u = Passed (joinsAll table first last) n u
+Inv-loop table first last n u₀ u = Tested (joinsAll table first last) n u
 
 abbrev μ-loop : tie.MeasureT-loop
 μ-loop table first last n u₀ u = n - u
@@ -19,7 +20,7 @@ shared-slice-read-animals-of : tie.Need-shared-slice-read-animals-of Inv-loop μ
 shared-slice-read-animals-of c = let s = c .before .before in omega (arith, opens-length (s .args .table .now) (s .pre .opens))
 
 loop-holds : tie.Need-loop-holds Inv-loop μ-loop
-loop-holds c = passed-start _ _
+loop-holds c = tested-start _ _
 
 joins-all-requires : tie.Need-joins-all-requires Inv-loop μ-loop
 joins-all-requires c κs =
@@ -32,19 +33,19 @@ returns c =
     let f = c .before in
     let l = f .before .before in
     let s = l .before .before .before .before in
-    all-connected (s .args .table .now) (s .args .first) (s .args .last) _ (l .before .animals-of .ensures) (passed-stop (l .loop .inv) (omega arith) (f .joins-all .ensures) (c .if1 .taken))
+    all-connected (s .args .table .now) (s .args .first) (s .args .last) _ (l .before .animals-of .ensures) (tested-stop (l .loop .inv) (omega arith) (f .joins-all .ensures) (c .if1 .taken))
 
 loop-again : tie.Need-loop-again Inv-loop μ-loop
 loop-again c =
     let f = c .before in
     let l = f .before .before in
-    passed-turn (l .loop .inv) (omega arith) (f .joins-all .ensures) (c .if1 .left)
+    tested-turn (l .loop .inv) (omega arith) (f .joins-all .ensures) (c .if1 .left)
 
 returns-2 : tie.Need-returns-2 Inv-loop μ-loop
 returns-2 c =
     let l = c .before in
     let s = l .before .before .before .before in
-    all-connected (s .args .table .now) (s .args .first) (s .args .last) _ (l .before .animals-of .ensures) (passed-end (l .loop .inv) (omega arith))
+    all-connected (s .args .table .now) (s .args .first) (s .args .last) _ (l .before .animals-of .ensures) (tested-end (l .loop .inv) (omega arith))
 
 pub connects-spec : {M : Type 1} → statement M
 connects-spec =

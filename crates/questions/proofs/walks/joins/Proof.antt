@@ -1,6 +1,6 @@
 -- `walks::joins` meets its contract: each return is a case of the test.
 use borrow.Author.Needs.{needs}
-use Rattle.questions.proofs.Passing.{joins-self, joins-other}
+use Rattle.questions.proofs.Joined.{joins-self, joins-other}
 use Rattle.questions.proofs.walks.joins.Statement.{statement}
 use Rattle.questions.proofs.walks.joins.Tie as tie
 

@@ -4,18 +4,19 @@ use mathlib.Core.Path.{subst}
 use Prim.Native.Nat.{ℕ, _-_, _<_}
 use native.Mathlib.Omega.{arith}
 use Rattle.questions.specs.Walks.{joins}
-use Rattle.questions.proofs.Passing.{Passed, passed-start, passed-turn, passed-stop, passed-end, all-joined}
+use Rattle.grid.proofs.Reading.{Tested, tested-start, tested-turn, tested-stop, tested-end}
+use Rattle.questions.proofs.Joined.{all-joined}
 use Rattle.questions.proofs.walks.joins_all.Statement.{statement}
 use Rattle.questions.proofs.walks.joins_all.Tie as tie
 
 abbrev Inv-loop : tie.InvT-loop
-Inv-loop table n u first last v₀ v = Passed (joins table first last u) n v
+Inv-loop table n u first last v₀ v = Tested (joins table first last u) n v
 
 abbrev μ-loop : tie.MeasureT-loop
 μ-loop table n u first last v₀ v = n - v
 
 loop-holds : tie.Need-loop-holds Inv-loop μ-loop
-loop-holds c = passed-start _ _
+loop-holds c = tested-start _ _
 
 joins-requires : tie.Need-joins-requires Inv-loop μ-loop
 joins-requires c κs =
@@ -30,19 +31,19 @@ returns c =
     let f = c .before in
     let l = f .before .before in
     let s = l .before .before in
-    all-joined (s .args .table .now) (s .args .first) (s .args .last) (s .args .u) _ (s .pre .1 .1) (passed-stop (l .loop .inv) (omega arith) (f .joins .ensures) (c .if1 .taken))
+    all-joined (s .args .table .now) (s .args .first) (s .args .last) (s .args .u) _ (s .pre .1 .1) (tested-stop (l .loop .inv) (omega arith) (f .joins .ensures) (c .if1 .taken))
 
 loop-again : tie.Need-loop-again Inv-loop μ-loop
 loop-again c =
     let f = c .before in
     let l = f .before .before in
-    passed-turn (l .loop .inv) (omega arith) (f .joins .ensures) (c .if1 .left)
+    tested-turn (l .loop .inv) (omega arith) (f .joins .ensures) (c .if1 .left)
 
 returns-2 : tie.Need-returns-2 Inv-loop μ-loop
 returns-2 c =
     let l = c .before in
     let s = l .before .before in
-    all-joined (s .args .table .now) (s .args .first) (s .args .last) (s .args .u) _ (s .pre .1 .1) (passed-end (l .loop .inv) (omega arith))
+    all-joined (s .args .table .now) (s .args .first) (s .args .last) (s .args .u) _ (s .pre .1 .1) (tested-end (l .loop .inv) (omega arith))
 
 pub joins-all-spec : {M : Type 1} → statement M
 joins-all-spec =

@@ -7,7 +7,7 @@ use lib.ListN.{getD}
 use Rattle.words.specs.Words.{intervalOf}
 use Rattle.rules.specs.Layout.{cellOf}
 use Rattle.rules.specs.Sheet.{intervalText, intervalsText}
-use Rattle.grid.proofs.RowsInUse.{rowsFrom, RowLoop, rows-begin, rows-turn}
+use Rattle.cells.proofs.RowLoop.{rowsFrom, RowLoop, rows-begin, rows-turn}
 use Rattle.cells.proofs.Lent.{count-fits}
 use Rattle.table_text.proofs.Writing.{Writing, back, inside, start, fits, piece, end}
 use Rattle.table_text.proofs.Texts.{all-left, next-left, none-left}

@@ -9,7 +9,7 @@ use lib.Seq.{drop-cons, getD-take, length-take-le}
 use Rattle.journeys.specs.Cell.{Cell}
 use Rattle.words.specs.Words.{intervalOf}
 use Rattle.rules.specs.Layout.{cellOf}
-use Rattle.grid.specs.RowsInUse.{rowsIn, RowsFit}
+use Rattle.cells.specs.Stored.{rowsIn, RowsFit}
 
 -- The intervals of the rows from i on, of those that end at e.
 unfoldable pub rowsFrom : List ℕ → ℕ → ℕ → Cell
