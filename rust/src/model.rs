@@ -41,6 +41,11 @@ pub fn arrivals_from(
     earliest_arrivals(opening, &leaving, x, first..=opening.ticks)
 }
 
+/// Whether a journey fits the window, given the earliest arrival of those that depart at or after its first tick.
+pub fn fits(arrival: Option<u32>, window: Interval) -> bool {
+    arrival.is_some_and(|arrival| Interval::new(window.departure, arrival).fits(window))
+}
+
 /// Every journey of a set of contacts, known by its animals, departure and arrival.
 pub struct Journeys {
     opening: Opening,
@@ -77,12 +82,22 @@ impl Journeys {
         departures.find(|&departure| self.holds(x, y, departure, arrival))
     }
 
+    /// Among the journeys from `x` to `y` that fit the window the earliest arrival, then the latest departure.
+    fn kept(&self, x: u32, y: u32, window: Interval) -> Option<Interval> {
+        let latest_fitting = |arrival| {
+            let departures = (1..=self.opening.ticks).rev();
+            let mut intervals = departures.map(|departure| Interval::new(departure, arrival));
+            intervals.find(|i| i.fits(window) && self.holds(x, y, i.departure, i.arrival))
+        };
+        (1..=self.opening.last_arrival()).find_map(latest_fitting)
+    }
+
     /// The chain from `u` to `v` in the window, by document 01's rule on the journeys.
     pub fn chain(&self, u: u32, v: u32, window: Interval) -> Option<Vec<Contact>> {
         let carry = self.opening.carry;
-        let leaves = |&arrival: &u32| self.latest(u, v, window.departure, arrival).is_some();
-        let arrival = (1..=window.arrival).find(leaves)?;
-        let (mut x, mut departure) = (u, self.latest(u, v, window.departure, arrival)?);
+        let kept = self.kept(u, v, window)?;
+        let arrival = kept.arrival;
+        let (mut x, mut departure) = (u, kept.departure);
         let mut chain = Vec::new();
         while x != v {
             let met = departure + carry;

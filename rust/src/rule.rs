@@ -34,9 +34,9 @@ pub fn add(opening: Opening, before: &Cells, contact: Contact) -> (Cells, Added)
     (after, Added::accepted(known, changed))
 }
 
-/// Whether an interval of the cell departs at or after the window's first tick and arrives by its last.
+/// Whether an interval of the cell fits the window.
 pub fn fits(cell: &[Interval], window: Interval) -> bool {
-    cell.iter().any(|interval| interval.within(window))
+    cell.iter().any(|interval| interval.fits(window))
 }
 
 /// The chain from `u` to `v` in the window: the walk, when it ends at `v` within n−1 contacts.
@@ -61,7 +61,7 @@ pub fn walk(
 ) -> (Vec<Contact>, bool) {
     let mut walked = Vec::new();
     let cell = &cells[opening.pair(u, v)];
-    let fitting = cell.iter().filter(|i| i.within(window));
+    let fitting = cell.iter().filter(|i| i.fits(window));
     let Some(kept) = fitting.min_by_key(|i| (i.arrival, Reverse(i.departure))) else {
         return (walked, false);
     };

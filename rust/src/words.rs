@@ -89,6 +89,12 @@ impl Interval {
     pub fn within(self, other: Interval) -> bool {
         other.departure <= self.departure && self.arrival <= other.arrival
     }
+
+    /// Whether a journey with this interval fits the window from its first tick to its last: it departs at or after the
+    /// first and arrives by the last.
+    pub fn fits(self, window: Interval) -> bool {
+        self.within(window)
+    }
 }
 
 /// The kind of an unused word.

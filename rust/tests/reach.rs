@@ -59,7 +59,7 @@ fn searched(opening: Opening, contacts: &Contacts) -> impl Fn(u32, u32, Interval
     }
     move |u, v, window| {
         let arrivals = &arrivals[(u * end + window.departure - 1) as usize];
-        arrivals[v as usize].is_some_and(|arrival| arrival <= window.arrival)
+        model::fits(arrivals[v as usize], window)
     }
 }
 
@@ -273,7 +273,7 @@ fn windows_about_the_minimal_intervals_of_wide_tables() {
         let contacts: Contacts = listed.into_iter().collect();
         let fits = |u: u32, v: u32, window: Interval| {
             let arrivals = model::arrivals_from(opening, &contacts, u, window.departure);
-            arrivals[v as usize].is_some_and(|arrival| arrival <= window.arrival)
+            model::fits(arrivals[v as usize], window)
         };
         let cells = model::minimal_intervals(opening, &contacts);
         let mut questions = Vec::new();
