@@ -16,7 +16,7 @@ use crate::Verdict;
 use rules::Refusal;
 
 // One check: passed where its test holds, else refused.
-pub(crate) fn ensure(test: bool, refusal: Refusal) -> Verdict
+pub fn ensure(test: bool, refusal: Refusal) -> Verdict
     ensures { λ r. ⌜ r ≡ verdictOf (ensure test refusal none) ⌝ }
 {
     if test {
@@ -26,7 +26,7 @@ pub(crate) fn ensure(test: bool, refusal: Refusal) -> Verdict
 }
 
 // The refusal of a group, or the verdict of the checks behind it.
-pub(crate) fn and_then(group: Verdict, behind: Verdict) -> Verdict
+pub fn and_then(group: Verdict, behind: Verdict) -> Verdict
     ensures { λ r. ⌜ r ≡ andThen group behind ⌝ }
 {
     match group {
@@ -36,7 +36,7 @@ pub(crate) fn and_then(group: Verdict, behind: Verdict) -> Verdict
 }
 
 // Whether both hold.
-pub(crate) fn both(a: bool, b: bool) -> bool
+pub fn both(a: bool, b: bool) -> bool
     ensures { λ r. ⌜ r ≡ (a && b) ⌝ }
 {
     if a {
@@ -46,7 +46,7 @@ pub(crate) fn both(a: bool, b: bool) -> bool
 }
 
 // The first of the words, 0 where there is none.
-pub(crate) fn first_word(words: &[u32]) -> u32
+pub fn first_word(words: &[u32]) -> u32
     ensures { λ r. ⌜ r ≡ getD (now (words .entry)) 0 0 ⌝ }
 {
     if words.len() == 0 {

@@ -1,7 +1,6 @@
-// The checks of every call, in groups: one function judges one group, and a call's checks are its groups one after the other.
-// Nothing is written.
-mod groups;
-mod log;
+// The checks of every call but reading a log, in groups: one function judges one group, and a call's checks are its groups one
+// after the other. Nothing is written.
+pub mod groups;
 
 ghost use mathlib.Core.Path.{_≡_};
 ghost use mathlib.Core.Option.{none};
@@ -14,7 +13,6 @@ ghost use Rattle.rules.specs.Adding.{ensurePair, addRefusal};
 ghost use Rattle.rules.specs.Windows.{ensureWindow};
 ghost use Rattle.rules.specs.Questions.{reachRefusal, momentRefusal, connectedRefusal, reachedRefusal};
 ghost use Rattle.rules.specs.Chains.{chainRefusal};
-ghost use Rattle.rules.specs.Reading.{readRefusal};
 ghost use Rattle.checks.specs.Verdicts.{verdictOf};
 use rules::Refusal;
 use tables::Made;
@@ -143,15 +141,4 @@ pub fn judge_chain(table: &[u32], u: u32, v: u32, first: u32, last: u32, buffer:
         whole,
         groups::and_then(pair, groups::and_then(window, room)),
     )
-}
-
-// All checks of reading the log into the table: 11, then 4, then 12 and 13 of each word, then 14.
-pub fn judge_read(log: &[u32], table: &[u32]) -> Verdict
-    ensures { λ r. ⌜ r ≡ verdictOf (readRefusal (now (log .entry)) (now (table .entry))) ⌝ }
-{
-    let shape = groups::ensure(log::is_log(log), Refusal::NotALog);
-    let length = log::judge_length(log, table);
-    let each = log::judge_words(log);
-    let end = log::judge_end(log);
-    groups::and_then(shape, groups::and_then(length, groups::and_then(each, end)))
 }

@@ -76,7 +76,7 @@ pub fn read_log(log: &[u32], table: &mut [u32]) -> ReadAnswer
     ensures { λ r. ⌜ r ≡ readAnswer (now (log .entry)) (now (table .entry)) ⌝ }
     ensures { λ _. ⌜ now (table .exit) ≡ readLeaves (now (log .entry)) (now (table .entry)) ⌝ }
 {
-    let verdict = checks::judge_read(log, table);
+    let verdict = log_checks::judge_read(log, table);
     match verdict {
         Verdict::Refused(r) => ReadAnswer::Refused(r),
         Verdict::Passed => {

@@ -28,7 +28,7 @@ use Rattle.rules.proofs.Runs.{run-fresh}
 use Rattle.rules.proofs.Reading.{read-iff}
 use Rattle.building.specs.Stage.{MarkedTable}
 use Rattle.building.proofs.MarkedTables.{opened-table}
-use Rattle.checks.proofs.Logged.{between-lent}
+use Rattle.log_checks.proofs.Logged.{between-lent}
 
 -- A log that no check refuses has two words or more.
 pub log-long : (L T : List ℕ) → readRefusal L T ≡ none → 2 ≤ length L
