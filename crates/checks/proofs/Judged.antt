@@ -8,6 +8,7 @@ use native.Mathlib.Omega.{arith}
 use lib.Dec.{ltb, leb, eqb}
 use lib.ListN.{length, getD}
 use borrow.Author.Tests.{ltb-true, leb-true}
+use Rattle.journeys.proofs.Tests.{never}
 use Rattle.words.specs.Words.{animalsOf, ticksOf, carryOf}
 use Rattle.rules.specs.declared.Refusal.{Refusal}
 use Rattle.rules.specs.declared.Refusal.the-variants.{NotOpen, NotWellFormed, NoSuchAnimal, SameAnimal, TickOutOfRange, ChainBufferTooShort}
@@ -32,7 +33,7 @@ pub record Group (f : Option Refusal → Option Refusal) : Type 0 where
 
 -- Nothing refused is no refusal.
 pub none-is-not-some : {A : Type 0} {r : Refusal} → none ≡ some r → A
-none-is-not-some e = absurd (let z : _≡_ {A = ℕ} 0 1 = cc in omega arith)
+none-is-not-some e = never cc
 
 -- A refusal is not nothing refused.
 pub some-is-not-none : {A : Type 0} {r : Refusal} → some r ≡ none → A
@@ -72,7 +73,7 @@ unfolding verdictOf
 verdict-refused {o} {v} {r} p q = go o (sym p ∙ q)
   where
     go : (o : Option Refusal) → verdictOf o ≡ Refused r → o ≡ some r
-    go none e = absurd (let z : _≡_ {A = ℕ} 0 1 = cc in omega arith)
+    go none e = never cc
     go (some s) e = let h : s ≡ r = cc in ap some h
 
 -- Where the verdict is passed, the checks refused nothing.
@@ -82,7 +83,7 @@ verdict-passed {o} {v} p q = go o (sym p ∙ q)
   where
     go : (o : Option Refusal) → verdictOf o ≡ Passed → o ≡ none
     go none e = refl
-    go (some s) e = absurd (let z : _≡_ {A = ℕ} 0 1 = cc in omega arith)
+    go (some s) e = never cc
 
 -- The law on a chain of groups: the verdict of a group, and then that of the checks behind it, is the verdict of them all.
 pub chained : {f : Option Refusal → Option Refusal} → Group f → (o : Option Refusal) {a w r : Verdict} → a ≡ verdictOf (f none) → w ≡ verdictOf o → r ≡ andThen a w → r ≡ verdictOf (f o)

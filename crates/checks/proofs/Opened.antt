@@ -3,9 +3,9 @@ use mathlib.Core.Path.{_≡_, refl, sym, ap, ap₂, _∙_, subst}
 use mathlib.Core.Option.{Option, none, some}
 use mathlib.Core.List.{List}
 use Prim.Native.Nat.{ℕ, _≤_}
-use native.Mathlib.Omega.{arith}
 use lib.Dec.{eqb}
 use lib.ListN.{length}
+use Rattle.journeys.proofs.Tests.{never}
 use Rattle.rules.specs.Limits.{maxAnimals, maxTicks, maxCarry}
 use Rattle.rules.specs.declared.Refusal.{Refusal}
 use Rattle.rules.specs.declared.Refusal.the-variants.{WrongLength, AnimalsBeyondLimit, TicksBeyondLimit, CarryBeyondLimit}
@@ -30,12 +30,12 @@ sizes-group n τ δ =
     (both-groups (one-check (within 1 τ maxTicks) TicksBeyondLimit) (one-check (within 1 δ maxCarry) CarryBeyondLimit))
 
 made-beyond : (o : Option Refusal) (p : Opening) (r : Refusal) → madeOf o p ≡ Beyond r → o ≡ some r
-made-beyond none p r e = absurd (let z : _≡_ {A = ℕ} 0 1 = cc in omega arith)
+made-beyond none p r e = never cc
 made-beyond (some s) p r e = let q : s ≡ r = cc in ap some q
 
 made-within : (o : Option Refusal) (p q : Opening) → madeOf o p ≡ Within q → (o ≡ none) × (p ≡ q)
 made-within none p q e = (refl, cc)
-made-within (some s) p q e = absurd (let z : _≡_ {A = ℕ} 0 1 = cc in omega arith)
+made-within (some s) p q e = never cc
 
 module _ (n τ δ : ℕ) {m : Made} (p : m ≡ made n τ δ) where
   -- A number beyond its limits refuses the opening.

@@ -8,8 +8,9 @@ use Rattle.rules.specs.Layout.{tableWords}
 use Rattle.rules.specs.Opening.{Sizes}
 use Rattle.rules.specs.Adding.{Legal}
 
--- "Fresh" is document 01's word: the table that a new table would be after the contacts of S, however it came about. T is the fresh table over the set S of legal contacts: the opening word, then for each ordered pair of different
--- animals a cell of that pair's minimal intervals over S, in document 01's layout; each (u, u) is empty.
+-- T is the fresh table over the set S of legal contacts: the opening word, then for each ordered pair of different animals a cell of
+-- that pair's minimal intervals over S, in document 01's layout; each (u, u) is empty. "Fresh" is document 01's word for what a table
+-- over S holds, however it came about; it need not be newly opened.
 pub record Fresh (n τ δ : ℕ) (S : Contacts) (T : List ℕ) : Type 0 where
   pub sizes : Sizes n τ δ
   pub legal : (k : Contact) → S k → Legal n τ k
