@@ -26,7 +26,7 @@ use Rattle.rules.proofs.Demand1.{added-good}
 use Rattle.grid.specs.Parts.{part, parts}
 use Rattle.grid.proofs.Flat.{parts-flat}
 use Rattle.grid.specs.Cells.{Grid}
-use Rattle.grid.proofs.Places.{rest-lent, cell-in, cell-of-row, grid-long, from-long}
+use Rattle.grid.proofs.Places.{rest-lent, cell-in, cell-from, grid-long, from-long}
 use Rattle.cells.specs.Stored.{Stored, orZero}
 use Rattle.tables.proofs.Stored.{cell-read, cell-limits, stored-cells}
 use Rattle.tables.proofs.Ticks.{Tick, tick-cond, latest-tick, earliest-tick}
@@ -95,7 +95,7 @@ module _ (T : List ℕ) (k : Contact) (ok : addRefusal T k ≡ none) where
     pub departures-below : Below m s d
     departures-below = listed-below m s _ (departureOf (cellsOf T) k) departure-is departure-tick d hd (omega arith)
 
-    -- The arrivals have their 11 bits.
+    -- The arrivals are within their limit.
     pub arrivals-below : Below m (maxArrival + 1) e
     arrivals-below = listed-below m (maxArrival + 1) _ (arrivalOf (carry T) (cellsOf T) k) arrival-is arrival-tick e he (omega arith)
 
@@ -109,7 +109,7 @@ module _ (T : List ℕ) (k : Contact) (ok : addRefusal T k ≡ none) where
 
     -- A cell of those from x is that of the table.
     cell-at : (x y : ℕ) → y < m → part s y (part (m * s) x body) ≡ cellAt m (ticks T) T x y
-    cell-at x y h = cell-of-row m s x y body h ∙ cell-in m (ticks T) T x y
+    cell-at x y h = cell-from m s x y body h ∙ cell-in m (ticks T) T x y
 
     -- The cell that its words say.
     cell-is : (x y : ℕ) → cellOf (cellAt m (ticks T) T x y) ≡ cellsOf T x y

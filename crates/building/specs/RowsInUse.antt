@@ -32,8 +32,8 @@ withRows c rest = countWord (length c) ∷ (map intervalWord c ++ rest)
 abbrev pub putWords : Interval → List ℕ → List ℕ
 putWords i xs = withRows (putLast i (cellOf xs)) (drop (length (putLast i (cellOf xs)) + 1) xs)
 
--- The words are a count, rising rows with departures from 1 to the number of rows and ends of 11 bits, and whatever
--- stands behind them.
+-- The words are a count, rising rows with departures from 1 to the number of rows and arrivals within their limit, and
+-- whatever stands behind them.
 pub record InUse (xs : List ℕ) : Type 0 where
   pub words : xs ≡ withRows (cellOf xs) (drop (length (cellOf xs) + 1) xs)
   pub fits : length (cellOf xs) < length xs

@@ -42,9 +42,9 @@ inside-first (suc a) s m [] h = rw (take-nil {A = ℕ} m) refl
 inside-first (suc a) s zero (x ∷ l) h = absurd (omega arith)
 inside-first (suc a) s (suc m) (x ∷ l) h = inside-first a s m l (omega arith)
 
--- Part v of the u-th n parts.
-pub part-of-row : (s n u v : ℕ) (l : List ℕ) → v < n → part s v (part (n * s) u l) ≡ part s (u * n + v) l
-part-of-row s n u v l h =
+-- Part v of the u-th part of n parts.
+pub part-of-part : (s n u v : ℕ) (l : List ℕ) → v < n → part s v (part (n * s) u l) ≡ part s (u * n + v) l
+part-of-part s n u v l h =
     inside-first (v * s) s (n * s) (drop (u * (n * s)) l) (part-inside v n s h)
     ∙ ap (take s) (drop-drop (v * s) (u * (n * s)) l)
     ∙ ap (λ (i : ℕ). take s (drop i l)) (place-of u v n s)
@@ -77,8 +77,8 @@ cell-lent n s body x y at e = lent-words body at s ∙ ap (λ (i : ℕ). take s 
 
 -- Cell (x, y) begins and ends inside the words, and is lent as it stands.
 pub record Place (n s : ℕ) (body : List ℕ) (x y : ℕ) : Type 0 where
-  pub row : x * n ≤ maxCells
-  pub column : y < maxAnimals
+  pub cells-before : x * n ≤ maxCells
+  pub animal-below : y < maxAnimals
   pub inside : (x * n + y) * s + s ≤ length body
   pub lent : take ((x * n + y) * s + s - (x * n + y) * s) (drop ((x * n + y) * s) body) ≡ cellIn n s body x y
 
@@ -87,8 +87,8 @@ pub place : (n s : ℕ) (body : List ℕ) (x y : ℕ) → n ≤ maxAnimals → l
 place n s body x y few long h k =
     let z : x ≤ maxAnimals = omega arith in
     record {
-      row = mul-le-mul z few;
-      column = omega arith;
+      cells-before = mul-le-mul z few;
+      animal-below = omega arith;
       inside = omega (arith, part-inside (x * n + y) (n * n) s (number-below n x y h k));
       lent = cell-lent n s body x y _ refl;
     }
@@ -102,9 +102,9 @@ start-bound n s x y few short h k =
 -- ---- the cells from one animal
 
 -- Cell y of the cells from x is cell (x, y).
-pub cell-of-row : (n s x y : ℕ) (body : List ℕ) → y < n → part s y (part (n * s) x body) ≡ cellIn n s body x y
+pub cell-from : (n s x y : ℕ) (body : List ℕ) → y < n → part s y (part (n * s) x body) ≡ cellIn n s body x y
 unfolding cellIn
-cell-of-row n s x y body h = part-of-row s n x y body h
+cell-from n s x y body h = part-of-part s n x y body h
 
 module _ {P : List ℕ → Type 0} {n s : ℕ} {body : List ℕ} (g : Grid P n s body) where
   -- The words lent of cell (x, y) have the property.
@@ -125,5 +125,5 @@ module _ {P : List ℕ → Type 0} {n s : ℕ} {body : List ℕ} (g : Grid P n s
       record {
         few = g .few;
         long = from-long x h;
-        every = λ y k. subst P (sym (cell-of-row n s x y body k)) (g .every x y h k);
+        every = λ y k. subst P (sym (cell-from n s x y body k)) (g .every x y h k);
       }

@@ -21,7 +21,8 @@ use Rattle.rules.specs.Answers.{ensure}
 use Rattle.rules.specs.Layout.{animals, cellsOf}
 use Rattle.rules.specs.Chains.{withTick, chainFrom, chainOf, chainRefusal, chainAnswer, chainLeaves}
 use Rattle.rules.specs.ChainRule.{IsChain, NamedChain}
-use Rattle.rules.specs.NamedChains.{Distinct, leavers, NamedChains}
+use Rattle.rules.specs.Orders.{Distinct}
+use Rattle.rules.specs.NamedChains.{leavers, NamedChains}
 use Rattle.rules.specs.declared.AskAnswer.the-variants.{Yes}
 use Rattle.rules.specs.Questions.{reachAnswer}
 use Rattle.rules.specs.Claims.{claimedAnswer}

@@ -16,7 +16,8 @@ use Rattle.journeys.proofs.Cover.{departure-path, arrival-path}
 use Rattle.rules.specs.Layout.{animals, cellsOf}
 use Rattle.rules.specs.Chains.{Lead, nowhere, there, leadsOn, leads, Lowest, nobody, animal, lowest, prepend, follow, chainFrom}
 use Rattle.rules.specs.ChainRule.{StillHad, Candidate, LowestCandidate, LatestLeaving, IsChain, last, next}
-use Rattle.rules.specs.NamedChains.{Distinct, leavers}
+use Rattle.rules.specs.Orders.{Distinct}
+use Rattle.rules.specs.NamedChains.{leavers}
 use Rattle.rules.specs.Claims.{contactsOf}
 use Rattle.rules.specs.Fresh.{Fresh}
 use Rattle.rules.proofs.Fresh.{fresh-animals}

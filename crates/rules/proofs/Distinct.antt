@@ -6,7 +6,7 @@ use Prim.Native.Nat.{ℕ, suc, _≤_, _<_}
 use native.Mathlib.Omega.{arith}
 use lib.ListN.{length}
 use Rattle.rules.specs.Folds.{flat}
-use Rattle.rules.specs.NamedChains.{Distinct}
+use Rattle.rules.specs.Orders.{Distinct}
 use Rattle.rules.proofs.Folds.{flat-length, flat-member}
 
 -- No element comes twice.

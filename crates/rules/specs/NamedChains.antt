@@ -3,23 +3,19 @@
 use Prim.Native.Nat.{ℕ, _+_, _≤_}
 use mathlib.Core.Path.{_≡_}
 use mathlib.Core.Logic.{_↔_}
-use mathlib.Core.List.{List, [], _∷_, map, List·Memᴰ}
+use mathlib.Core.List.{List, [], _∷_, map}
 use mathlib.Core.Option.{some}
 use lib.ListN.{length}
 use Rattle.journeys.specs.Journey.{Contact, Contacts}
 use Rattle.words.specs.Words.{contactWord}
 use Rattle.rules.specs.Fresh.{Fresh}
+use Rattle.rules.specs.Orders.{Distinct}
 use Rattle.rules.specs.Windows.{IsWindow, IsPair}
 use Rattle.rules.specs.declared.AskAnswer.the-variants.{Yes}
 use Rattle.rules.specs.Questions.{reachAnswer}
 use Rattle.rules.specs.Chains.{chainOf}
 use Rattle.rules.specs.Claims.{claimedAnswer}
 use Rattle.rules.specs.ChainRule.{NamedChain}
-
--- No number comes twice.
-abbrev pub Distinct : List ℕ → Type 0
-Distinct [] = Unit {0}
-Distinct (a ∷ l) = (¬ List·Memᴰ a l) × Distinct l
 
 -- The animals that the contacts of a chain leave from.
 abbrev pub leavers : List Contact → List ℕ

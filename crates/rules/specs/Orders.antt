@@ -1,8 +1,8 @@
--- Orders of contacts and of pairs, and sorted lists.
+-- Orders of contacts and of pairs, sorted lists, and lists without repeats.
 use Prim.Native.Nat.{ℕ, _<_}
 use mathlib.Core.Path.{_≡_}
 use mathlib.Core.Logic.{_⊎_}
-use mathlib.Core.List.{List, [], _∷_}
+use mathlib.Core.List.{List, [], _∷_, List·Memᴰ}
 use Rattle.journeys.specs.Journey.{Contact}
 
 -- The element stands in the order R before the first of the list, if there is one.
@@ -27,3 +27,8 @@ pub record Pair : Type 0 where
 -- By u, then v: strictly, so that a sorted list has each pair once.
 abbrev pub Lower : Pair → Pair → Type 0
 Lower p q = (p .from < q .from) ⊎ ((p .from ≡ q .from) × (p .to < q .to))
+
+-- No number comes twice.
+abbrev pub Distinct : List ℕ → Type 0
+Distinct [] = Unit {0}
+Distinct (a ∷ l) = (¬ List·Memᴰ a l) × Distinct l

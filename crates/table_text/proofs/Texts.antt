@@ -13,7 +13,7 @@ use Rattle.rules.specs.Sheet.{decimal, space, newline, intervalText, intervalsT
 use Rattle.rules.proofs.Folds.{flat-same}
 use Rattle.grid.specs.Parts.{part}
 use Rattle.cells.specs.Stored.{rowsIn}
-use Rattle.grid.proofs.Places.{cell-in, cell-of-row}
+use Rattle.grid.proofs.Places.{cell-in, cell-from}
 use Rattle.cells.proofs.RowLoop.{rowsFrom, RowLoop, rows-all, rows-next, rows-end, rows-count}
 use Rattle.tables.proofs.TableRead.{Read}
 use Rattle.cells.specs.Stored.{Stored}
@@ -71,7 +71,7 @@ unfolding linesFrom cellLine cellsOf
 table-lines T =
     let n = animals T in
     let s = ticks T + 1 in
-    flat-same _ _ n (λ u h. flat-same _ _ n (λ v k. ap (λ (l : List ℕ). cellText u v (cellOf l)) (cell-of-row n s u v (drop 1 T) k ∙ cell-in n (ticks T) T u v)))
+    flat-same _ _ n (λ u h. flat-same _ _ n (λ v k. ap (λ (l : List ℕ). cellText u v (cellOf l)) (cell-from n s u v (drop 1 T) k ∙ cell-in n (ticks T) T u v)))
 
 -- The first line and the lines of the cells are the text of the table, by its numbers as they were read.
 pub table-text : (T : List ℕ) {n s δ : ℕ} {L : List ℕ} (r : Read T n s δ L) (τ held : ℕ) → τ ≡ ticks T → held ≡ length (heldContacts T)

@@ -18,7 +18,7 @@ use Rattle.rules.specs.Opening.{noIntervals}
 use Rattle.rules.proofs.Folds.{flat-same}
 use Rattle.rules.proofs.Sound.{opens-length}
 use Rattle.grid.specs.Parts.{part, parts}
-use Rattle.grid.proofs.Places.{part-inside, part-length, part-of-row, rest-lent, rest-length}
+use Rattle.grid.proofs.Places.{part-inside, part-length, part-of-part, rest-lent, rest-length}
 use Rattle.grid.proofs.Reading.{all-same}
 use Rattle.grid.proofs.Flat.{parts-flat}
 use Rattle.tables.specs.Cells.{mostRows, cellOfWellFormed, cellsFromWellFormed, cellsFromAt, allCellsWellFormed, emptied}
@@ -58,7 +58,7 @@ body-formed T = all-same _ _ n (λ u h. all-same _ _ n (λ v k. ap (cellWellForm
     s = ticks T + 1
 
     cell : (u v : ℕ) → v < n → part s v (part (n * s) u (drop 1 T)) ≡ take s (drop (1 + (u * n + v) * s) T)
-    cell u v k = part-of-row s n u v (drop 1 T) k ∙ ap (take s) (drop-drop ((u * n + v) * s) 1 T)
+    cell u v k = part-of-part s n u v (drop 1 T) k ∙ ap (take s) (drop-drop ((u * n + v) * s) 1 T)
 
 -- With the three numbers that the first word says.
 module _ (T : List ℕ) (n τ δ : ℕ) (a : n ≡ animals T) (b : τ ≡ ticks T) (c : δ ≡ carry T) where
