@@ -33,7 +33,9 @@ returns c =
     let f = c .before in
     let p = pair (f .before) in
     let a = entry (f .before) .args in
-    rw (passed (f .before)) (tick-nothing (earliestArrival (cellsOf (a .table .now) (a .u) (a .v)) (a .first)) (f .first-arrival .ensures) (earliest-from-one (a .table .now) (p .valid) (a .u) (a .v) (p .from-below) (p .to-below) (a .first)) (c .if1 .taken))
+    let T = a .table .now in
+    rw (passed (f .before))
+    (tick-nothing (earliestArrival (cellsOf T (a .u) (a .v)) (a .first)) (f .first-arrival .ensures) (earliest-from-one T (p .valid) (a .u) (a .v) (p .from-below) (p .to-below) (a .first)) (c .if1 .taken))
 
 returns-2 : tie.Need-returns-2
 unfolding earliestAnswer

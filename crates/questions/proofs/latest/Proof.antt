@@ -33,7 +33,9 @@ returns c =
     let f = c .before in
     let p = pair (f .before) in
     let a = entry (f .before) .args in
-    rw (passed (f .before)) (tick-nothing (latestDeparture (cellsOf (a .table .now) (a .u) (a .v)) (a .last)) (f .last-departure .ensures) (latest-from-one (a .table .now) (p .valid) (a .u) (a .v) (p .from-below) (p .to-below) (a .last)) (c .if1 .taken))
+    let T = a .table .now in
+    rw (passed (f .before))
+    (tick-nothing (latestDeparture (cellsOf T (a .u) (a .v)) (a .last)) (f .last-departure .ensures) (latest-from-one T (p .valid) (a .u) (a .v) (p .from-below) (p .to-below) (a .last)) (c .if1 .taken))
 
 returns-2 : tie.Need-returns-2
 unfolding latestAnswer
