@@ -60,7 +60,7 @@ pub fn chain(
     ensures { λ r. ⌜ r ≡ chainAnswer (now (table .entry)) u v first last (now (buffer .entry)) ⌝ }
     ensures { λ _. ⌜ now (buffer .exit) ≡ chainLeaves (now (table .entry)) u v first last (now (buffer .entry)) ⌝ }
 {
-    let verdict = checks::judge_chain(table, u, v, first, last, buffer);
+    let verdict = call_checks::judge_chain(table, u, v, first, last, buffer);
     match verdict {
         Verdict::Refused(r) => ChainAnswer::Refused(r),
         Verdict::Passed => {

@@ -56,7 +56,7 @@ pub fn first_word(words: &[u32]) -> u32
 }
 
 // Checks 7 and 8, of two animals.
-pub(crate) fn judge_pair(table: &[u32], u: u32, v: u32) -> Verdict
+pub fn judge_pair(table: &[u32], u: u32, v: u32) -> Verdict
     ensures { λ r. ⌜ r ≡ verdictOf (ensurePair (now (table .entry)) u v none) ⌝ }
 {
     let n = words::animals_of(first_word(table));
@@ -66,7 +66,7 @@ pub(crate) fn judge_pair(table: &[u32], u: u32, v: u32) -> Verdict
 }
 
 // Check 7, of one animal.
-pub(crate) fn judge_animal(table: &[u32], u: u32) -> Verdict
+pub fn judge_animal(table: &[u32], u: u32) -> Verdict
     ensures { λ r. ⌜ r ≡ verdictOf (ensureAnimal (now (table .entry)) u none) ⌝ }
 {
     let n = words::animals_of(first_word(table));
@@ -74,7 +74,7 @@ pub(crate) fn judge_animal(table: &[u32], u: u32) -> Verdict
 }
 
 // Check 9, of a contact's tick: 1 to τ.
-pub(crate) fn judge_tick(table: &[u32], t: u32) -> Verdict
+pub fn judge_tick(table: &[u32], t: u32) -> Verdict
     ensures { λ r. ⌜ r ≡ verdictOf (ensureTick (now (table .entry)) t none) ⌝ }
 {
     let last = words::ticks_of(first_word(table));
@@ -82,7 +82,7 @@ pub(crate) fn judge_tick(table: &[u32], t: u32) -> Verdict
 }
 
 // Check 9, of a single tick of a question: 1 to τ+δ.
-pub(crate) fn judge_moment(table: &[u32], t: u32) -> Verdict
+pub fn judge_moment(table: &[u32], t: u32) -> Verdict
     ensures { λ r. ⌜ r ≡ verdictOf (ensureMoment (now (table .entry)) t none) ⌝ }
 {
     let w = first_word(table);
@@ -100,7 +100,7 @@ fn window_in_range(table: &[u32], first: u32, last: u32) -> bool
 }
 
 // Check 9, of a window: both ticks in range, then the first not after the last.
-pub(crate) fn judge_window(table: &[u32], first: u32, last: u32) -> Verdict
+pub fn judge_window(table: &[u32], first: u32, last: u32) -> Verdict
     ensures { λ r. ⌜ r ≡ verdictOf (ensureWindow (now (table .entry)) first last none) ⌝ }
 {
     let range = ensure(window_in_range(table, first, last), Refusal::TickOutOfRange);
@@ -109,7 +109,7 @@ pub(crate) fn judge_window(table: &[u32], first: u32, last: u32) -> Verdict
 }
 
 // Check 10, of the buffer for a chain.
-pub(crate) fn judge_room(table: &[u32], buffer: &[u32]) -> Verdict
+pub fn judge_room(table: &[u32], buffer: &[u32]) -> Verdict
     ensures { λ r. ⌜ r ≡ verdictOf (ensure (leb (animals (now (table .entry)) - 1) (length (now (buffer .entry)))) ChainBufferTooShort none) ⌝ }
 {
     let n = words::animals_of(first_word(table)) as usize;

@@ -50,7 +50,7 @@ fn spells(table: &[u32], u: u32, v: u32, first: u32, last: u32, chain: &[u32]) -
 pub fn claimed(table: &[u32], u: u32, v: u32, first: u32, last: u32, chain: &[u32]) -> AskAnswer
     ensures { λ r. ⌜ r ≡ claimedAnswer (now (table .entry)) u v first last (now (chain .entry)) ⌝ }
 {
-    let verdict = checks::judge_reach(table, u, v, first, last);
+    let verdict = call_checks::judge_reach(table, u, v, first, last);
     match verdict {
         Verdict::Refused(r) => AskAnswer::Refused(r),
         Verdict::Passed => {

@@ -39,7 +39,7 @@ pub fn add_contact(table: &mut [u32], u: u32, v: u32, t: u32) -> AddAnswer
     ensures { λ r. ⌜ r ≡ addAnswer (now (table .entry)) (contact u v t) ⌝ }
     ensures { λ _. ⌜ now (table .exit) ≡ addLeaves (now (table .entry)) (contact u v t) ⌝ }
 {
-    let verdict = checks::judge_add(table, u, v, t);
+    let verdict = call_checks::judge_add(table, u, v, t);
     match verdict {
         Verdict::Refused(r) => AddAnswer::Refused(r),
         Verdict::Passed => {

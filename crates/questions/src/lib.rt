@@ -28,7 +28,7 @@ pub fn reach_checked(table: &[u32], u: u32, v: u32, first: u32, last: u32) -> As
     requires { ⌜ ValidTable (now table) ⌝ }
     ensures { λ r. ⌜ r ≡ reachAnswer (now (table .entry)) u v first last ⌝ }
 {
-    let verdict = checks::judge_question(table, u, v, first, last);
+    let verdict = call_checks::judge_question(table, u, v, first, last);
     match verdict {
         Verdict::Refused(r) => AskAnswer::Refused(r),
         Verdict::Passed => {
@@ -55,7 +55,7 @@ pub fn reach(table: &[u32], u: u32, v: u32, first: u32, last: u32) -> AskAnswer
 pub fn earliest(table: &[u32], u: u32, v: u32, first: u32) -> TickAnswer
     ensures { λ r. ⌜ r ≡ earliestAnswer (now (table .entry)) u v first ⌝ }
 {
-    let verdict = checks::judge_moment(table, u, v, first);
+    let verdict = call_checks::judge_moment(table, u, v, first);
     match verdict {
         Verdict::Refused(r) => TickAnswer::Refused(r),
         Verdict::Passed => {
@@ -72,7 +72,7 @@ pub fn earliest(table: &[u32], u: u32, v: u32, first: u32) -> TickAnswer
 pub fn latest(table: &[u32], u: u32, v: u32, last: u32) -> TickAnswer
     ensures { λ r. ⌜ r ≡ latestAnswer (now (table .entry)) u v last ⌝ }
 {
-    let verdict = checks::judge_moment(table, u, v, last);
+    let verdict = call_checks::judge_moment(table, u, v, last);
     match verdict {
         Verdict::Refused(r) => TickAnswer::Refused(r),
         Verdict::Passed => {
@@ -89,7 +89,7 @@ pub fn latest(table: &[u32], u: u32, v: u32, last: u32) -> TickAnswer
 pub fn connected(table: &[u32], first: u32, last: u32) -> AskAnswer
     ensures { λ r. ⌜ r ≡ connectedAnswer (now (table .entry)) first last ⌝ }
 {
-    let verdict = checks::judge_connected(table, first, last);
+    let verdict = call_checks::judge_connected(table, first, last);
     match verdict {
         Verdict::Refused(r) => AskAnswer::Refused(r),
         Verdict::Passed => {
@@ -107,7 +107,7 @@ pub fn reached(table: &[u32], u: u32, first: u32, last: u32) -> ReachedAnswer
     ensures { λ r. ⌜ r .set .words ≡ reachedWords (now (table .entry)) u first last ⌝ }
     ensures { λ r. ⌜ r .set .count ≡ reachedCount (now (table .entry)) u first last ⌝ }
 {
-    let verdict = checks::judge_reached(table, u, first, last);
+    let verdict = call_checks::judge_reached(table, u, first, last);
     match verdict {
         Verdict::Refused(r) => ReachedAnswer {
             answer: SetAnswer::Refused(r),

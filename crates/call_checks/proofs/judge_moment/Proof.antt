@@ -1,9 +1,9 @@
 -- `judge_moment` meets its contract: its groups, one after the other.
 use Rattle.rules.specs.Questions.{momentRefusal}
 use Rattle.checks.proofs.Judged.{table-group, pair-group, chained}
 use borrow.Author.Needs.{needs}
-use Rattle.checks.proofs.judge_moment.Statement.{statement}
-use Rattle.checks.proofs.judge_moment.Tie as tie
+use Rattle.call_checks.proofs.judge_moment.Statement.{statement}
+use Rattle.call_checks.proofs.judge_moment.Tie as tie
 
 -- All groups are judged.
 abbrev judged : tie.After-and-then2 → tie.After-judge-moment

@@ -1,9 +1,9 @@
 -- `judge_chain` meets its contract: its groups, one after the other.
 use Rattle.rules.specs.Chains.{chainRefusal}
 use Rattle.checks.proofs.Judged.{table-group, pair-group, window-group, chained}
 use borrow.Author.Needs.{needs}
-use Rattle.checks.proofs.judge_chain.Statement.{statement}
-use Rattle.checks.proofs.judge_chain.Tie as tie
+use Rattle.call_checks.proofs.judge_chain.Statement.{statement}
+use Rattle.call_checks.proofs.judge_chain.Tie as tie
 
 -- All groups are judged.
 abbrev judged : tie.After-and-then3 → tie.After-judge-room

@@ -1,9 +1,9 @@
 -- `judge_add` meets its contract: its groups, one after the other.
 use Rattle.rules.specs.Adding.{addRefusal}
 use Rattle.checks.proofs.Judged.{table-group, pair-group, chained}
 use borrow.Author.Needs.{needs}
-use Rattle.checks.proofs.judge_add.Statement.{statement}
-use Rattle.checks.proofs.judge_add.Tie as tie
+use Rattle.call_checks.proofs.judge_add.Statement.{statement}
+use Rattle.call_checks.proofs.judge_add.Tie as tie
 
 -- All groups are judged.
 abbrev judged : tie.After-and-then2 → tie.After-judge-tick

@@ -1,8 +1,8 @@
 -- `judge_question` meets its contract: its groups, one after the other.
 use Rattle.checks.proofs.Judged.{pair-group, chained}
 use borrow.Author.Needs.{needs}
-use Rattle.checks.proofs.judge_question.Statement.{statement}
-use Rattle.checks.proofs.judge_question.Tie as tie
+use Rattle.call_checks.proofs.judge_question.Statement.{statement}
+use Rattle.call_checks.proofs.judge_question.Tie as tie
 
 returns : tie.Need-returns
 returns c =

@@ -3,10 +3,10 @@ use lib.Dec.{ltb}
 use Rattle.rules.specs.declared.Refusal.the-variants.{NoSuchAnimal}
 use Rattle.rules.specs.Layout.{animals}
 use Rattle.rules.specs.Questions.{reachedRefusal}
 use Rattle.checks.proofs.Judged.{table-group, one-check, chained}
 use borrow.Author.Needs.{needs}
-use Rattle.checks.proofs.judge_reached.Statement.{statement}
-use Rattle.checks.proofs.judge_reached.Tie as tie
+use Rattle.call_checks.proofs.judge_reached.Statement.{statement}
+use Rattle.call_checks.proofs.judge_reached.Tie as tie
 
 -- All groups are judged.
 abbrev judged : tie.After-and-then2 → tie.After-judge-window
