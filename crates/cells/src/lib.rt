@@ -1,6 +1,4 @@
-// One cell in lent memory: the check of a cell, and the search for a row.
-mod check;
-
+// One cell in lent memory: the search for a row, and whether an interval of the cell fits a window.
 ghost use mathlib.Core.Path.{_≡_};
 ghost use Prim.Native.Nat.{_+_, _≤_};
 ghost use mathlib.Core.List.{map};
@@ -9,9 +7,7 @@ ghost use Rattle.journeys.specs.Journey.{interval};
 ghost use Rattle.journeys.specs.Cell.{Rising, latestDeparture, earliestArrival, hasInside};
 ghost use Rattle.words.specs.Layout.{get};
 ghost use Rattle.words.specs.Words.{rowsField, intervalOf};
-ghost use Rattle.rules.specs.Limits.{maxTicks, maxCarry};
 ghost use Rattle.rules.specs.Layout.{cellOf};
-ghost use Rattle.rules.specs.Checks.{cellWellFormed};
 ghost use Rattle.rules.specs.Adding.{stands};
 ghost use Rattle.rules.specs.Windows.{window, fitsWindow};
 ghost use Rattle.cells.specs.Stored.{RowsInUse, departureEnd, arrivalEnd, frontBelow, orZero};
@@ -104,26 +100,6 @@ pub fn stands(cell: &[u32], d: u32, a: u32) -> bool
         return false;
     }
     true
-}
-
-// Whether the words are a well-formed cell with at most `most` rows in use.
-pub fn is_well_formed(cell: &[u32], ticks: u32, carry: u32, most: u32) -> bool
-    requires { ⌜ (most + 1 ≤ length (now cell)) × (ticks ≤ maxTicks) × (carry ≤ maxCarry) × (most ≤ maxTicks) ⌝ }
-    ensures { λ r. ⌜ r ≡ cellWellFormed ticks carry most (now (cell .entry)) ⌝ }
-{
-    let w = cell[0];
-    if !words::is_count(w) {
-        return false;
-    }
-    let rows = words::rows_of(w);
-    if most < rows {
-        return false;
-    }
-    let end = rows as usize + 1;
-    if !check::rows_well_formed(&cell[1..end], ticks, carry) {
-        return false;
-    }
-    check::all_unused(&cell[end..])
 }
 
 // Whether the interval [departure, arrival] fits the window from `first` to `last`.

@@ -19,7 +19,7 @@ use Rattle.rules.proofs.Held.{holds-at}
 use Rattle.rules.proofs.Sound.{table-sizes, passes-good}
 use Rattle.rules.proofs.Leads.{Departing, found, missing, departing, LowestOf, none-below, first-is, lowest-of}
 use Rattle.cells.specs.Stored.{orZero}
-use Rattle.cells.proofs.Checks.{stopped, passed}
+use Rattle.cell_checks.proofs.Checks.{stopped, passed}
 use Rattle.chains.specs.Found.{leadOf, lowestOf}
 
 -- ---- where a contact leads, with a its arrival

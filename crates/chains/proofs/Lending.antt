@@ -18,7 +18,7 @@ use Rattle.rules.proofs.Sound.{passes-good}
 use Rattle.rules.proofs.Changes.{stands-outcome}
 use Rattle.rules.proofs.Leads.{Departing, found, missing, departing, same-arrival}
 use Rattle.cells.specs.Stored.{orZero}
-use Rattle.cells.proofs.Checks.{stopped, passed}
+use Rattle.cell_checks.proofs.Checks.{stopped, passed}
 use Rattle.tables.proofs.Ticks.{tick-some}
 
 -- The cells of a table that passes its checks rise.

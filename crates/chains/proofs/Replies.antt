@@ -22,7 +22,7 @@ use Rattle.rules.specs.Windows.{fitsWindow}
 use Rattle.rules.specs.Chains.{chainFrom, chainOf, chainRefusal, chainAnswerOf, chainAnswer, chainWords, chainLeaves}
 use Rattle.rules.proofs.Sound.{table-sizes, passes-good}
 use Rattle.cells.specs.Stored.{orZero}
-use Rattle.cells.proofs.Checks.{stopped, passed}
+use Rattle.cell_checks.proofs.Checks.{stopped, passed}
 use Rattle.tables.proofs.Ticks.{Tick, tick-below, latest-tick, earliest-from-one, latest-from-one, tick-none, tick-some}
 use Rattle.chains.specs.Found.{wordsOf, collected}
 

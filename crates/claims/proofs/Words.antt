@@ -16,7 +16,7 @@ use Rattle.rules.specs.Layout.{animals, carry}
 use Rattle.rules.specs.Adding.{holds}
 use Rattle.rules.specs.Windows.{fitsWindow}
 use Rattle.rules.specs.Claims.{heldWord, leavesFrom, formJourney, lastWord, spells}
-use Rattle.cells.proofs.Checks.{stopped, passed}
+use Rattle.cell_checks.proofs.Checks.{stopped, passed}
 use Rattle.claims.specs.Following.{goesOn, follows}
 
 -- ---- a word

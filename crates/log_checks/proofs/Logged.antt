@@ -17,7 +17,7 @@ use Rattle.rules.specs.declared.Refusal.the-variants.{NotAContact, IllegalConta
 use Rattle.rules.specs.declared.LogWord.{LogWord}
 use Rattle.rules.specs.declared.LogWord.the-variants.{Legal, NoContact, NotLegal}
 use Rattle.rules.specs.Reading.{between, isLegal, logWord, ensureLegal, ensureWords}
-use Rattle.cells.proofs.Checks.{stopped, passed}
+use Rattle.cell_checks.proofs.Checks.{stopped, passed}
 use Rattle.checks.specs.declared.Verdict.the-variants.{Passed, Refused}
 use Rattle.checks.specs.Verdicts.{verdictOf}
 use Rattle.checks.proofs.Judged.{Group, both-groups, none-is-not-some, some-is-not-none}

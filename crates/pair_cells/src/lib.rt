@@ -2,11 +2,11 @@
 ghost use mathlib.Core.Path.{_≡_};
 ghost use Prim.Native.Nat.{_<_};
 ghost use Rattle.journeys.specs.Journey.{interval};
-ghost use Rattle.journeys.specs.Cell.{latestDeparture, earliestArrival, hasInside};
+ghost use Rattle.journeys.specs.Cell.{latestDeparture, earliestArrival};
 ghost use Rattle.rules.specs.Layout.{animals, cellsOf};
 ghost use Rattle.rules.specs.Checks.{ValidTable};
 ghost use Rattle.rules.specs.Adding.{stands};
-ghost use Rattle.rules.specs.Windows.{window};
+ghost use Rattle.rules.specs.Questions.{reaches};
 ghost use Rattle.cells.specs.Stored.{orZero};
 
 // The earliest arrival in cell (u, v) with departure at least `first`, or 0 where there is none.
@@ -36,11 +36,11 @@ pub fn stands(table: &[u32], u: u32, v: u32, d: u32, a: u32) -> bool
     cells::stands(tables::cell(table, u, v), d, a)
 }
 
-// Whether an interval of cell (u, v) fits the window from `first` to `last`.
-pub fn has_fitting(table: &[u32], u: u32, v: u32, first: u32, last: u32) -> bool
+// Whether a stored interval of the pair fits the window from `first` to `last`.
+pub fn reaches(table: &[u32], u: u32, v: u32, first: u32, last: u32) -> bool
     requires { ⌜ ValidTable (now table) ⌝ }
     requires { ⌜ (u < animals (now table)) × (v < animals (now table)) ⌝ }
-    ensures { λ r. ⌜ r ≡ hasInside (window first last) (cellsOf (now (table .entry)) u v) ⌝ }
+    ensures { λ r. ⌜ r ≡ reaches (now (table .entry)) u v first last ⌝ }
 {
     cells::has_fitting(tables::cell(table, u, v), first, last)
 }

@@ -1,3 +1,1 @@
 pub mod TickAnswers
-pub mod Joined
-pub mod Collecting

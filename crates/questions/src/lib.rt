@@ -1,27 +1,15 @@
 // Questions about windows and ticks. Each checks in document 01's order, and its answer is that of its rule, for every
 // input.
-mod sets;
-mod walks;
-
 ghost use mathlib.Core.Path.{_≡_};
-ghost use Prim.Native.Nat.{_<_};
-ghost use Rattle.rules.specs.Layout.{animals};
 ghost use Rattle.rules.specs.Checks.{ValidTable};
-ghost use Rattle.rules.specs.Questions.{reaches, reachAnswer, earliestAnswer, latestAnswer, connectedAnswer, reachedAnswer, reachedWords, reachedCount};
+ghost use Rattle.rules.specs.Questions.{reachAnswer, earliestAnswer, latestAnswer, connectedAnswer, reachedAnswer, reachedWords, reachedCount};
+use animal_loops::sets;
+use animal_loops::walks;
 use checks::Verdict;
 use rules::AskAnswer;
 use rules::ReachedAnswer;
 use rules::SetAnswer;
 use rules::TickAnswer;
-
-// Whether a stored interval of the pair fits the window, on a table that passed its checks.
-pub fn reaches(table: &[u32], u: u32, v: u32, first: u32, last: u32) -> bool
-    requires { ⌜ ValidTable (now table) ⌝ }
-    requires { ⌜ (u < animals (now table)) × (v < animals (now table)) ⌝ }
-    ensures { λ r. ⌜ r ≡ reaches (now (table .entry)) u v first last ⌝ }
-{
-    pair_cells::has_fitting(table, u, v, first, last)
-}
 
 // Whether v can have been reached from u in the window, on a table that passed 5 and 6. Refuses with 7, 8, 9.
 pub fn reach_checked(table: &[u32], u: u32, v: u32, first: u32, last: u32) -> AskAnswer
@@ -32,7 +20,7 @@ pub fn reach_checked(table: &[u32], u: u32, v: u32, first: u32, last: u32) -> As
     match verdict {
         Verdict::Refused(r) => AskAnswer::Refused(r),
         Verdict::Passed => {
-            if reaches(table, u, v, first, last) {
+            if pair_cells::reaches(table, u, v, first, last) {
                 return AskAnswer::Yes;
             }
             AskAnswer::No

@@ -26,7 +26,7 @@ use Rattle.rules.specs.Sheet.{mostBytes, mostAnimals, mostTicks, mostText, most
 use Rattle.rules.proofs.Folds.{and-left, and-right}
 use Rattle.rules.proofs.Demand1.{demand1}
 use Rattle.rules.proofs.LogsRead.{read-held}
-use Rattle.cells.proofs.Checks.{stopped, passed}
+use Rattle.cell_checks.proofs.Checks.{stopped, passed}
 use Rattle.table_text.specs.Lines.{overwriteFront}
 use Rattle.table_text.proofs.Lengths.{sheet-fits}
 use Rattle.sheet_text.specs.Prints.{Prints}

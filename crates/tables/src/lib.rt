@@ -127,7 +127,7 @@ fn cells_from_well_formed(cells: &[u32], u: usize, n: usize, ticks: u32, carry: 
     for v in 0..n {
         let end = at + size;
         let most = most_rows(u, v, ticks);
-        if !cells::is_well_formed(&cells[at..end], ticks, carry, most) {
+        if !cell_checks::is_well_formed(&cells[at..end], ticks, carry, most) {
             return false;
         }
         at = end;

@@ -2,7 +2,7 @@
 use mathlib.Core.Path.{refl}
 use Rattle.checks.specs.Verdicts.{verdictOf}
 use Rattle.rules.specs.declared.Refusal.the-variants.{NotWellFormed}
-use Rattle.cells.proofs.Checks.{stopped, passed}
+use Rattle.cell_checks.proofs.Checks.{stopped, passed}
 use Rattle.checks.proofs.Judged.{check-as}
 use borrow.Author.Needs.{needs}
 use Rattle.checks.proofs.judge_table.Statement.{statement}

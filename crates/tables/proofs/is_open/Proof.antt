@@ -3,7 +3,7 @@ use native.Mathlib.Omega.{arith}
 use borrow.Author.Needs.{needs}
 use mathlib.Core.Path.{ap₂, _∙_}
 use Rattle.rules.specs.Layout.{tableLength}
-use Rattle.cells.proofs.Checks.{stopped, passed}
+use Rattle.cell_checks.proofs.Checks.{stopped, passed}
 use Rattle.tables.proofs.Openings.{open-none, open-kind, open-length}
 use Rattle.tables.proofs.is_open.Statement.{statement}
 use Rattle.tables.proofs.is_open.Tie as tie

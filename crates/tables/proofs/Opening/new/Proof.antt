@@ -4,7 +4,7 @@ use mathlib.Core.Path.{_≡_}
 use mathlib.Core.Bool.{true}
 use Rattle.rules.specs.Folds.{within}
 use Rattle.rules.specs.Limits.{maxAnimals, maxTicks}
-use Rattle.cells.proofs.Checks.{stopped, passed}
+use Rattle.cell_checks.proofs.Checks.{stopped, passed}
 use Rattle.tables.proofs.Openings.{animals-beyond, ticks-beyond, carry-beyond, all-within}
 use Rattle.tables.proofs.Opening.new.Statement.{statement}
 use Rattle.tables.proofs.Opening.new.Tie as tie
