@@ -1,4 +1,4 @@
--- Document 01's number for each refusal, and the number that the C interface gives for each answer.
+-- Document 01's number for each refusal, and the number and value of each case of an answer, as the C interface replies them.
 use Prim.Native.Nat.{ℕ, _+_, _*_, _^_}
 use mathlib.Core.Option.{Option, none, some}
 use mathlib.Core.Bool.{Bool, true, false}
@@ -16,8 +16,14 @@ use Rattle.rules.specs.declared.AskAnswer.{AskAnswer}
 use Rattle.rules.specs.declared.AskAnswer.the-variants.{Yes, No, Refused as AskRefused}
 use Rattle.rules.specs.declared.TickAnswer.{TickAnswer}
 use Rattle.rules.specs.declared.TickAnswer.the-variants.{At, Nothing, Refused as TickRefused}
+use Rattle.rules.specs.declared.SetAnswer.{SetAnswer}
+use Rattle.rules.specs.declared.SetAnswer.the-variants.{Found, Refused as SetRefused}
 use Rattle.rules.specs.declared.ChainAnswer.{ChainAnswer}
 use Rattle.rules.specs.declared.ChainAnswer.the-variants.{Chain, NoJourney, Refused as ChainRefused}
+use Rattle.rules.specs.declared.ListAnswer.{ListAnswer}
+use Rattle.rules.specs.declared.ListAnswer.the-variants.{Answered, Refused as ListRefused}
+use Rattle.rules.specs.declared.RecordAnswer.{RecordAnswer}
+use Rattle.rules.specs.declared.RecordAnswer.the-variants.{Unasked, Yes as RecordYes, No as RecordNo, Refused as RecordRefused}
 
 -- The number of a refusal (document 01, "Where each check sits").
 abbrev pub numberOf : Refusal → ℕ
@@ -38,36 +44,67 @@ numberOf WrongEnd = 14
 numberOf LogBufferTooShort = 15
 numberOf TallyFull = 16
 
--- A reply of the C interface: which answer in the upper 32 bits, its number in the lower 32.
+-- ---- which answer each case is, and its number, as one reply: 0 is a refusal with its number, 1 and 2 are the answers of the call
+
+-- A reply: which answer in the upper 32 bits, its number in the lower 32.
 abbrev pub reply : ℕ → ℕ → ℕ
 reply which number = which * 2 ^ 32 + number
 
+-- 1 opened.
 abbrev pub openReply : OpenAnswer → ℕ
 openReply Opened = reply 1 0
 openReply (OpenRefused r) = reply 0 (numberOf r)
 
+-- 1 new, 2 known, each with the number of cells changed.
 abbrev pub addReply : AddAnswer → ℕ
 addReply (New k) = reply 1 k
 addReply (Known k) = reply 2 k
 addReply (AddRefused r) = reply 0 (numberOf r)
 
+-- 1 written, with the number of words.
 abbrev pub writeReply : WriteAnswer → ℕ
 writeReply (Written k) = reply 1 k
 writeReply (WriteRefused r) = reply 0 (numberOf r)
 
+-- 1 read, with the number of different contacts.
 abbrev pub readReply : ReadAnswer → ℕ
 readReply (Read k) = reply 1 k
 readReply (ReadRefused r) = reply 0 (numberOf r)
 
+-- 1 yes, 2 no.
 abbrev pub askReply : AskAnswer → ℕ
 askReply Yes = reply 1 0
 askReply No = reply 2 0
 askReply (AskRefused r) = reply 0 (numberOf r)
 
+-- 1 found, with the tick, 2 none.
+abbrev pub tickReply : TickAnswer → ℕ
+tickReply (At t) = reply 1 t
+tickReply Nothing = reply 2 0
+tickReply (TickRefused r) = reply 0 (numberOf r)
+
+-- 1 a set, with its count.
+abbrev pub setReply : SetAnswer → ℕ → ℕ
+setReply Found count = reply 1 count
+setReply (SetRefused r) count = reply 0 (numberOf r)
+
+-- 1 a chain, with the number of its contacts, 2 no journey.
 abbrev pub chainReply : ChainAnswer → ℕ
 chainReply (Chain k) = reply 1 k
 chainReply NoJourney = reply 2 0
 chainReply (ChainRefused r) = reply 0 (numberOf r)
+
+-- 1 answered, with the number of records.
+abbrev pub listReply : ListAnswer → ℕ
+listReply (Answered k) = reply 1 k
+listReply (ListRefused r) = reply 0 (numberOf r)
+
+-- 1 yes, 2 no, 3 unasked; a refusal is held by its number.
+abbrev pub recordReply : RecordAnswer → ℕ
+recordReply RecordYes = reply 1 0
+recordReply RecordNo = reply 2 0
+recordReply Unasked = reply 3 0
+recordReply (RecordRefused number) = reply 0 number
 
 -- ---- checks in their order
 

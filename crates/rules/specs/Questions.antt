@@ -2,8 +2,8 @@
 use Prim.Native.Nat.{ℕ, _+_, _*_, _^_}
 use mathlib.Core.Bool.{Bool, true, false, cond, not, _&&_, _||_}
 use mathlib.Core.Option.{Option, none, some}
-use mathlib.Core.List.{List, [], _∷_}
-use lib.ListN.{replicate}
+use mathlib.Core.List.{List, [], _∷_, _++_}
+use lib.ListN.{length, take, drop, replicate}
 use lib.Dec.{ltb, eqb}
 use Rattle.journeys.specs.Cell.{hasInside, latestDeparture, earliestArrival}
 use Rattle.rules.specs.declared.Refusal.{Refusal}
@@ -100,3 +100,8 @@ reachedWords T u first last = unless (reachedRefusal T u first last) (setWords T
 -- Its number of animals; 0 on a refusal.
 unfoldable pub reachedCount : List ℕ → ℕ → ℕ → ℕ → ℕ
 reachedCount T u first last = unless (reachedRefusal T u first last) (countBelow (isReached T u first last) (animals T)) 0
+
+-- The words lent for the set afterwards: its eight words at their front, as many as there is room for; words behind keep theirs, and on a
+-- refusal all do.
+unfoldable pub reachedLeaves : List ℕ → ℕ → ℕ → ℕ → List ℕ → List ℕ
+reachedLeaves T u first last B = unless (reachedRefusal T u first last) (take (length B) (setWords T u first last) ++ drop 8 B) B
