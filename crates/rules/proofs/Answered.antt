@@ -22,15 +22,15 @@ use Rattle.rules.specs.declared.SetAnswer.the-variants.{Found}
 use Rattle.rules.specs.declared.Refusal.{Refusal}
 use Rattle.rules.specs.Answers.{unless}
 use Rattle.rules.specs.Folds.{flat, allBelow, sumBelow, countBelow}
-use Rattle.rules.specs.Layout.{animals, cellsOf}
+use Rattle.rules.specs.Layout.{animals, cellAt, cellOf, cellsOf}
 use Rattle.rules.specs.Questions.{reaches, reachAnswer, earliestAnswer, latestAnswer, connects, connectedAnswer, isReached, setWord, setWords, reachedRefusal, reachedAnswer, reachedWords, reachedCount}
 use Rattle.rules.specs.Fresh.{Fresh}
 use Rattle.rules.specs.Orders.{Sorted}
 use Rattle.rules.specs.Windows.{window, IsWindow, IsPair, Fits}
-use Rattle.rules.specs.Demand2.{Earliest, Latest, AllFit, ReachedFrom, BitSet}
+use Rattle.rules.specs.Demand2.{StoredIn, Earliest, Latest, AllFit, ReachedFrom, BitSet}
 use Rattle.rules.proofs.Folds.{all-below, below-all, flat-member, member-flat}
 use Rattle.rules.proofs.Sorted.{sorted-flat, sorted-one, member-one}
-use Rattle.rules.proofs.Fresh.{fresh-animals, fresh-cells}
+use Rattle.rules.proofs.Fresh.{fresh-animals, fresh-ticks, fresh-cells}
 use Rattle.rules.proofs.Bits.{sum-bit}
 use Rattle.rules.proofs.Asked.{yes-iff, no-iff, at-iff, nothing-iff, reach-asked, moment-asked, connected-asked, reached-asked}
 
@@ -71,8 +71,13 @@ module _ {n τ δ : ℕ} {S : Contacts} {T : List ℕ} (f : Fresh n τ δ S T) w
   cell-is : (u v : ℕ) → IsPair n u v → cellsOf T u v ≡ f .cells u v
   cell-is u v p = fresh-cells f u v (p .from-below) (p .to-below)
 
-  pub stored : (u v : ℕ) → IsPair n u v → (i : Interval) → List·Memᴰ i (cellsOf T u v) ↔ Minimal S δ u v i
-  stored u v p i = rw (cell-is u v p) (f .minimal .cells u v (p .apart) .exact i)
+  -- The cell read by the table's numbers is that of the set.
+  cell-read : (u v : ℕ) → IsPair n u v → cellOf (cellAt n τ T u v) ≡ f .cells u v
+  unfolding cellsOf
+  cell-read u v p = rw (fresh-animals f, fresh-ticks f) at (cell-is u v p)
+
+  pub stored : (u v : ℕ) → IsPair n u v → (i : Interval) → StoredIn n τ T u v i ↔ Minimal S δ u v i
+  stored u v p i = rw (cell-read u v p) (f .minimal .cells u v (p .apart) .exact i)
 
   -- An interval is covered exactly when a journey lies inside it.
   covered-iff : (u v : ℕ) → IsPair n u v → (i : Interval) → Covers i (cellsOf T u v) ↔ ((j : Interval) × Journey S δ u v j × Inside j i)

@@ -57,10 +57,6 @@ open-cases : (n τ δ : ℕ) (T : List ℕ) (P : Option Refusal → List ℕ →
 unfolding openLeaves
 open-cases n τ δ T P a b = unless-cases (openRefusal n τ δ T) P (λ r e. a r) b
 
-open-opened : (o : Option Refusal) → openAnswerOf o ≡ Opened → o ≡ none
-open-opened none e = refl
-open-opened (some r) e = never cc
-
 open-kept : (n τ δ : ℕ) (T : List ℕ) (r : Refusal) → openAnswer n τ δ T ≡ OpenRefused r → openLeaves n τ δ T ≡ T
 unfolding openAnswer
 open-kept n τ δ T r = open-cases n τ δ T (λ o L. openAnswerOf o ≡ OpenRefused r → L ≡ T) (λ s e. refl) (λ p e. never cc)

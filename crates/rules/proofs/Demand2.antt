@@ -1,26 +1,32 @@
--- Demand 2 holds of the rules.
+-- Demand 2 holds of the engine and the questions of document 01.
+use Rattle.rules.specs.CallLists.{engine}
 use Rattle.rules.specs.Demand2.{questions, Demand2}
+use Rattle.rules.proofs.Judged.{open-none}
+use Rattle.rules.proofs.Runs.{run-fresh}
 use Rattle.rules.proofs.Answered.{stored, reach-yes, reach-no, earliest-at, earliest-none, latest-at, latest-none, connected-yes, connected-no, reached-found, reached-eight, reached-bit, reached-count}
 use Rattle.rules.proofs.ChainShown.{named-when, one-chain, chain-is-shown, none-is-shown}
 
-pub demand2 : Demand2 questions
+pub demand2 : Demand2 engine questions
 demand2 =
     record {
-      stored = λ n τ δ S T f. stored f;
-      reach-yes = λ n τ δ S T f. reach-yes f;
-      reach-no = λ n τ δ S T f. reach-no f;
-      earliest-at = λ n τ δ S T f u v first p h k. earliest-at f u v p first h k;
-      earliest-none = λ n τ δ S T f u v first p h k. earliest-none f u v p first h k;
-      latest-at = λ n τ δ S T f u v last p h k. latest-at f u v p last h k;
-      latest-none = λ n τ δ S T f u v last p h k. latest-none f u v p last h k;
-      connected-yes = λ n τ δ S T f. connected-yes f;
-      connected-no = λ n τ δ S T f. connected-no f;
-      reached-found = λ n τ δ S T f u first last h w. reached-found f u first last h w;
-      reached-eight = reached-eight;
-      reached-bit = λ n τ δ S T f u first last h w. reached-bit f u first last h w;
-      reached-count = λ n τ δ S T f u first last h w. reached-count f u first last h w;
-      chain-named = λ n τ δ S T f u v first last p. named-when f u v first last p;
-      chain-one = one-chain;
-      chain-shown = λ n τ δ S T f u v first last p w B h. chain-is-shown f u v first last p w B h;
-      chain-none = λ n τ δ S T f u v first last p w B h. none-is-shown f u v first last p w B h;
+      stored = λ n τ δ words A p. stored (run-fresh n τ δ words A (open-none n τ δ words .0 p));
+      answered = λ n τ δ S T f.
+          record {
+            reach-yes = reach-yes f;
+            reach-no = reach-no f;
+            earliest-at = λ u v first p. earliest-at f u v p first;
+            earliest-none = λ u v first p. earliest-none f u v p first;
+            latest-at = λ u v last p. latest-at f u v p last;
+            latest-none = λ u v last p. latest-none f u v p last;
+            connected-yes = connected-yes f;
+            connected-no = connected-no f;
+            reached-found = reached-found f;
+            reached-eight = reached-eight T;
+            reached-bit = reached-bit f;
+            reached-count = reached-count f;
+            chain-named = named-when f;
+            chain-one = one-chain S δ;
+            chain-shown = chain-is-shown f;
+            chain-none = none-is-shown f;
+          };
     }

@@ -19,11 +19,10 @@ use Rattle.journeys.proofs.Theorems.{contacts-stand, unchanged}
 use Rattle.words.specs.Words.{openingWord}
 use Rattle.rules.specs.declared.Refusal.{Refusal}
 use Rattle.rules.specs.declared.Refusal.the-variants.{NotOpen, NotWellFormed, LogBufferTooShort}
-use Rattle.rules.specs.declared.OpenAnswer.the-variants.{Opened}
 use Rattle.rules.specs.declared.AddAnswer.{AddAnswer}
 use Rattle.rules.specs.declared.AddAnswer.the-variants.{New, Known, Refused as AddRefused}
 use Rattle.rules.specs.declared.WriteAnswer.the-variants.{Written}
-use Rattle.rules.specs.Answers.{openAnswerOf, addAnswerOf}
+use Rattle.rules.specs.Answers.{addAnswerOf}
 use Rattle.rules.specs.Folds.{flat, sumBelow, countBelow}
 use Rattle.rules.specs.Layout.{tableLength, cellWords, tableWords, cellAt, cellOf, animals, carry, cellsOf}
 use Rattle.rules.specs.Checks.{isOpen, wellFormed, ValidTable}
@@ -39,7 +38,7 @@ use Rattle.rules.proofs.Folds.{flat-member, member-flat, sum-same, coun
 use Rattle.rules.proofs.Decode.{cell-again, table-cell}
 use Rattle.rules.proofs.Sound.{opens-first}
 use Rattle.rules.proofs.Changes.{sameCell-outcome}
-use Rattle.rules.proofs.Judged.{none-some, ensure-iff, open-iff}
+use Rattle.rules.proofs.Judged.{none-some, ensure-iff, open-iff, open-none}
 use Rattle.rules.proofs.Fresh.{fresh-good, fresh-animals, fresh-ticks, fresh-carry, fresh-passes, fresh-cells, fresh-accepts, add-fresh, fresh-map, fresh-unique}
 use Rattle.rules.proofs.Sorted.{sorted-flat, sorted-one, member-one}
 use Rattle.rules.proofs.Held.{held-sorted, fresh-holds, fresh-held}
@@ -273,14 +272,6 @@ module _ {n τ δ : ℕ} {S : Contacts} {T : List ℕ} (f : Fresh n τ δ S T) w
   fresh-log B h = rw (write-accepts B h, fresh-first)
 
 -- ---- the demand
-
-open-none : (n τ δ : ℕ) (words : List ℕ) → (openAnswer n τ δ words ≡ Opened) ↔ (openRefusal n τ δ words ≡ none)
-unfolding openAnswer
-open-none n τ δ words = go (openRefusal n τ δ words)
-  where
-    go : (o : Option Refusal) → (openAnswerOf o ≡ Opened) ↔ (o ≡ none)
-    go none = (λ e. refl, λ e. refl)
-    go (some r) = (λ e. never cc, λ e. none-some (some r) r e refl)
 
 one-list : (n τ δ : ℕ) (words : List ℕ) (A : List Contact) → openRefusal n τ δ words ≡ none → OneList engine n τ δ words A
 one-list n τ δ words A e =

@@ -13,12 +13,13 @@ use Rattle.journeys.specs.Journey.{Contact}
 use Rattle.journeys.proofs.Tests.{never}
 use Rattle.rules.specs.declared.Refusal.{Refusal}
 use Rattle.rules.specs.declared.Refusal.the-variants.{AnimalsBeyondLimit, TicksBeyondLimit, CarryBeyondLimit, WrongLength, NotOpen, NotWellFormed, NoSuchAnimal, SameAnimal, TickOutOfRange}
-use Rattle.rules.specs.Answers.{ensure, unless}
+use Rattle.rules.specs.declared.OpenAnswer.the-variants.{Opened}
+use Rattle.rules.specs.Answers.{ensure, unless, openAnswerOf}
 use Rattle.rules.specs.Folds.{within}
 use Rattle.rules.specs.Layout.{tableLength, animals, ticks}
 use Rattle.rules.specs.Checks.{isOpen, wellFormed, ValidTable}
 use Rattle.rules.specs.Limits.{maxAnimals, maxTicks, maxCarry}
-use Rattle.rules.specs.Opening.{Sizes, ensureSizes, openRefusal}
+use Rattle.rules.specs.Opening.{Sizes, ensureSizes, openRefusal, openAnswer}
 use Rattle.rules.specs.Adding.{Legal, addRefusal}
 use Rattle.rules.proofs.Folds.{and-left, and-right, and-intro}
 
@@ -81,6 +82,15 @@ open-iff n τ δ T = (
   where
     last : Option Refusal
     last = ensure (eqb (length T) (tableLength n τ)) WrongLength none
+
+-- An opening answers opened exactly when nothing refuses it.
+pub open-none : (n τ δ : ℕ) (words : List ℕ) → (openAnswer n τ δ words ≡ Opened) ↔ (openRefusal n τ δ words ≡ none)
+unfolding openAnswer
+open-none n τ δ words = go (openRefusal n τ δ words)
+  where
+    go : (o : Option Refusal) → (openAnswerOf o ≡ Opened) ↔ (o ≡ none)
+    go none = (λ e. refl, λ e. refl)
+    go (some r) = (λ e. never cc, λ e. none-some (some r) r e refl)
 
 -- ---- adding
 

@@ -24,6 +24,7 @@ pub mod Leads
 pub mod Chains
 pub mod ChainShown
 pub mod Demand2
+pub mod DeterminedAnswers
 pub mod RejectedAnswers
 pub mod Examples
 pub mod Claims

@@ -1,4 +1,4 @@
--- Each wrong engine goes wrong on a list of calls, so it does not meet demand 3.
+-- Each wrong engine goes wrong on a list of calls, so it does not meet demand 3, nor demand 2 where its tables store wrong intervals.
 use mathlib.Core.Path.{_≡_, refl, sym, ap, _∙_, subst}
 use mathlib.Core.Logic.{_↔_, _⊎_, inl, inr, ⊎-elim}
 use mathlib.Core.Bool.{Bool, true, false, cond}
@@ -6,7 +6,7 @@ use mathlib.Core.List.{List, [], _∷_, _++_, List·Memᴰ, List·Memᴰ·head, 
 use Prim.Native.Nat.{ℕ, zero, suc, _+_, _≤_}
 use native.Mathlib.Omega.{arith}
 use lib.ListN.{length, getD, replicate}
-use Rattle.journeys.specs.Journey.{Contact, contact}
+use Rattle.journeys.specs.Journey.{Contact, contact, Interval, interval}
 use Rattle.journeys.specs.Cell.{later, sooner, latestDeparture, earliestArrival, hasInside, withoutContaining, putInOrder, enter}
 use Rattle.journeys.specs.Adding.{departureOf, arrivalOf, enterBoth, add}
 use Rattle.journeys.proofs.Tests.{never}
@@ -23,11 +23,15 @@ use Rattle.rules.specs.Adding.{Legal, stands, sameCell, cellsChanged, ad
 use Rattle.rules.specs.Logs.{held, heldContacts, logWords, writeRefusal, writeAnswer, writeLeaves}
 use Rattle.rules.specs.CallLists.{Engine, engine, run, tableAfter, LegalOf, Accepted}
 use Rattle.rules.specs.Orders.{Sorted, Earlier}
+use Rattle.rules.specs.Windows.{IsPair}
+use Rattle.rules.specs.Demand2.{Questions, questions, StoredIn, Demand2}
 use Rattle.rules.specs.Demand3.{Demand3}
 use Rattle.rules.specs.Determined.{AgreeAfter, Agree}
-use Rattle.rules.specs.Wrong.{leavesTable, loneContacts, joinsEarlier, joinsLater, firstPairOnly, keepsDisplaced, countsOne, alwaysKnown, alwaysNew, refusesAdds, refusesOpenings, unsortedLog, repeatsInLog, Rejected}
+use Rattle.rules.specs.Wrong.{leavesTable, loneContacts, joinsEarlier, joinsLater, firstPairOnly, keepsDisplaced, countsOne, alwaysKnown, alwaysNew, refusesAdds, refusesOpenings, unsortedLog, repeatsInLog, Rejected, RejectedTables}
 use Rattle.rules.proofs.Demand3.{demand3}
 use Rattle.rules.proofs.Determined.{determined}
+use Rattle.rules.proofs.Demand2.{demand2}
+use Rattle.rules.proofs.DeterminedAnswers.{determined-answers}
 
 -- A table of three animals and two ticks, before it is opened.
 abbrev blank : List ℕ
@@ -92,4 +96,36 @@ rejected =
       refuses-openings = λ d. (let w : OpenRefused _ ≡ Opened = determined refusesOpenings engine d demand3 .openings 3 2 1 blank .1 refl in never cc);
       unsorted-log = λ d. (let w : _≡_ {A = ℕ} 0x4000_0401 0x4000_0400 = same-logged unsortedLog d refl 1 in omega arith);
       repeats-in-log = λ d. (let w : _≡_ {A = ℕ} 0x4000_0400 0xC000_0002 = same-logged repeatsInLog d refl 3 in omega arith);
+    }
+
+-- ---- demand 2
+
+-- An engine that meets the demand stores on the table what the engine of document 01 stores.
+module _ (E : Engine) (Q : Questions) (d : Demand2 E Q) (p : E .open-answer 3 2 1 blank ≡ Opened) (A : List Contact) (u v : ℕ) (h : IsPair 3 u v) (i : Interval) where
+  same-stored : StoredIn 3 2 (tableAfter E 3 2 1 blank A) u v i ↔ StoredIn 3 2 (tableAfter engine 3 2 1 blank A) u v i
+  unfolding openAnswer openRefusal
+  same-stored = determined-answers E engine Q questions d demand2 .stored 3 2 1 blank A p refl u v h i
+
+pair-02 : IsPair 3 0 2
+pair-02 = record { from-below = omega arith; to-below = omega arith; apart = λ e. omega arith }
+
+pair-12 : IsPair 3 1 2
+pair-12 = record { from-below = omega arith; to-below = omega arith; apart = λ e. omega arith }
+
+-- An interval of one departure is not in a cell of another.
+not-there : (i j : Interval) → (i .departure ≡ j .departure → ⊥) → List·Memᴰ i (j ∷ []) → ⊥
+not-there i j h m = ⊎-elim (λ e. h (ap (λ (k : Interval). k .departure) e)) List·Memᴰ·not-nil (List·Memᴰ·cases-cons m)
+
+pub rejected-tables : RejectedTables
+unfolding openAnswer openLeaves openRefusal tableWords flat cellWords run addLeaves addRefusal isOpen isOf wellFormed allBelow cellWellFormed rowsWellFormed rowWellFormed allUnused cellsOf cellAt cellOf addedCells add departureOf arrivalOf enterBoth enter putInOrder withoutContaining hasInside latestDeparture earliestArrival later sooner
+rejected-tables =
+    record {
+      leaves-table = λ Q d. List·Memᴰ·not-nil (same-stored leavesTable Q d refl (contact 0 2 1 ∷ []) 0 2 pair-02 (interval 1 2) .1 (List·Memᴰ·head refl));
+      lone-contacts = λ Q d. List·Memᴰ·not-nil (same-stored loneContacts Q d refl (contact 0 1 1 ∷ contact 1 2 2 ∷ []) 0 2 pair-02 (interval 1 3) .1 (List·Memᴰ·head refl));
+      joins-earlier = λ Q d. List·Memᴰ·not-nil (same-stored joinsEarlier Q d refl (contact 1 2 2 ∷ contact 0 1 1 ∷ []) 0 2 pair-02 (interval 1 3) .1 (List·Memᴰ·head refl));
+      joins-later = λ Q d. List·Memᴰ·not-nil (same-stored joinsLater Q d refl (contact 0 1 1 ∷ contact 1 2 2 ∷ []) 0 2 pair-02 (interval 1 3) .1 (List·Memᴰ·head refl));
+      first-pair-only = λ Q d. List·Memᴰ·not-nil (same-stored firstPairOnly Q d refl (contact 0 1 1 ∷ contact 1 2 2 ∷ []) 1 2 pair-12 (interval 2 3) .1 (List·Memᴰ·head refl));
+      keeps-displaced = λ Q d.
+          not-there (interval 1 3) (interval 2 3) (λ e. omega arith)
+          (same-stored keepsDisplaced Q d refl (contact 0 1 1 ∷ contact 1 2 2 ∷ contact 0 2 2 ∷ []) 0 2 pair-02 (interval 1 3) .0 (List·Memᴰ·head refl));
     }

@@ -1,4 +1,4 @@
--- Demand 2 of the tender, over any fresh table, with its own words above its parts.
+-- Demand 2 of the tender, over any engine and its questions, with its own words above its parts.
 use Prim.Native.Nat.{ℕ, _+_, _/_, _%_, _^_, _≤_, _<_}
 use mathlib.Core.Path.{_≡_}
 use mathlib.Core.Logic.{_↔_, _≢_}
@@ -15,9 +15,11 @@ use Rattle.rules.specs.declared.SetAnswer.{SetAnswer}
 use Rattle.rules.specs.declared.SetAnswer.the-variants.{Found}
 use Rattle.rules.specs.declared.ChainAnswer.{ChainAnswer}
 use Rattle.rules.specs.declared.ChainAnswer.the-variants.{Chain, NoJourney}
-use Rattle.rules.specs.Layout.{cellsOf}
+use Rattle.rules.specs.declared.OpenAnswer.the-variants.{Opened}
+use Rattle.rules.specs.Layout.{cellAt, cellOf}
 use Rattle.rules.specs.Questions.{reachAnswer, earliestAnswer, latestAnswer, connectedAnswer, reachedAnswer, reachedWords, reachedCount}
 use Rattle.rules.specs.Fresh.{Fresh}
+use Rattle.rules.specs.CallLists.{Engine, tableAfter, LegalOf}
 use Rattle.rules.specs.Orders.{Sorted}
 use Rattle.rules.specs.Windows.{IsWindow, IsPair, Fits}
 use Rattle.rules.specs.Chains.{chainAnswer, chainLeaves}
@@ -52,6 +54,10 @@ questions =
 
 -- ---- the words of the demand
 
+-- The interval stands in cell (u, v) of a table of n animals and τ ticks.
+abbrev pub StoredIn : ℕ → ℕ → List ℕ → ℕ → ℕ → Interval → Type 0
+StoredIn n τ T u v i = List·Memᴰ i (cellOf (cellAt n τ T u v))
+
 -- Tick e is the least arrival of the journeys from u to v that depart at or after first.
 pub record Earliest (S : Contacts) (δ u v first e : ℕ) : Type 0 where
   pub departure : ℕ
@@ -82,46 +88,46 @@ BitSet words i = getD words (i / 32) 0 / 2 ^ (i % 32) % 2 ≡ 1
 
 -- ---- the demand
 
-pub record Demand2 (Q : Questions) : Type 1 where
+-- What is said of the questions on a table T of n animals, τ ticks and carry time δ, over the set S of its contacts.
+module _ (Q : Questions) (n τ δ : ℕ) (S : Contacts) (T : List ℕ) where
+  pub record AnsweredOn : Type 0 where
+    -- "A question is answered yes when a journey fits its window and no when none does."
+    pub reach-yes : (u v first last : ℕ) → IsPair n u v → IsWindow τ δ first last → (Q .reach T u v first last ≡ Yes) ↔ Fits S δ u v first last
+    pub reach-no : (u v first last : ℕ) → IsPair n u v → IsWindow τ δ first last → (Q .reach T u v first last ≡ No) ↔ (¬ Fits S δ u v first last)
+    -- Earliest arrival from a first tick: the least arrival of fitting journeys, none exactly when none fits.
+    pub earliest-at : (u v first : ℕ) → IsPair n u v → 1 ≤ first → first ≤ τ + δ → (e : ℕ) → (Q .earliest T u v first ≡ At e) ↔ Earliest S δ u v first e
+    pub earliest-none : (u v first : ℕ) → IsPair n u v → 1 ≤ first → first ≤ τ + δ
+        → (Q .earliest T u v first ≡ Nothing) ↔ ((i : Interval) → Journey S δ u v i → ¬ (first ≤ i .departure))
+    -- Latest departure by a last tick: the greatest departure of fitting journeys, none exactly when none fits.
+    pub latest-at : (u v last : ℕ) → IsPair n u v → 1 ≤ last → last ≤ τ + δ → (d : ℕ) → (Q .latest T u v last ≡ At d) ↔ Latest S δ u v last d
+    pub latest-none : (u v last : ℕ) → IsPair n u v → 1 ≤ last → last ≤ τ + δ
+        → (Q .latest T u v last ≡ Nothing) ↔ ((i : Interval) → Journey S δ u v i → ¬ (i .arrival ≤ last))
+    -- Connected: every ordered pair of different animals is reached in the window.
+    pub connected-yes : (first last : ℕ) → IsWindow τ δ first last → (Q .connected T first last ≡ Yes) ↔ AllFit S δ n first last
+    pub connected-no : (first last : ℕ) → IsWindow τ δ first last → (Q .connected T first last ≡ No) ↔ (¬ AllFit S δ n first last)
+    -- Reached from u: the bits of the set record, and its count.
+    pub reached-found : (u first last : ℕ) → u < n → IsWindow τ δ first last → Q .reached T u first last ≡ Found
+    pub reached-eight : (u first last : ℕ) → length (Q .reached-words T u first last) ≡ 8
+    pub reached-bit : (u first last : ℕ) → u < n → IsWindow τ δ first last
+        → (i : ℕ) → i < maxAnimals → BitSet (Q .reached-words T u first last) i ↔ ReachedFrom S δ n u first last i
+    pub reached-count : (u first last : ℕ) → u < n → IsWindow τ δ first last
+        → (l : List ℕ) × Sorted _<_ l × ((i : ℕ) → List·Memᴰ i l ↔ ReachedFrom S δ n u first last i) × (Q .reached-count T u first last ≡ length l)
+    -- "The chain shown for a yes is the one that document 01's rule names": a chain is named exactly when a journey fits,
+    -- and only one; its number of contacts is the answer, and its words stand at the buffer's start.
+    pub chain-named : (u v first last : ℕ) → IsPair n u v → Fits S δ u v first last ↔ ((l : List Contact) × NamedChain S δ u v first last l)
+    pub chain-one : (u v first last : ℕ) (l m : List Contact) → NamedChain S δ u v first last l → NamedChain S δ u v first last m → l ≡ m
+    pub chain-shown : (u v first last : ℕ) → IsPair n u v → IsWindow τ δ first last → (B : List ℕ) → n ≤ length B + 1
+        → (l : List Contact) → NamedChain S δ u v first last l
+        → (Q .chain T u v first last B ≡ Chain (length l)) × (Q .chain-leaves T u v first last B ≡ map contactWord l ++ drop (length l) B)
+    -- Where no journey fits, the answer is "no journey" and the buffer keeps its words.
+    pub chain-none : (u v first last : ℕ) → IsPair n u v → IsWindow τ δ first last → (B : List ℕ) → n ≤ length B + 1
+        → (¬ Fits S δ u v first last) → (Q .chain T u v first last B ≡ NoJourney) × (Q .chain-leaves T u v first last B ≡ B)
+
+pub record Demand2 (E : Engine) (Q : Questions) : Type 1 where
   -- "After any contacts, the stored intervals of each ordered pair of different animals are just the minimal journey
-  -- intervals of those contacts, as the timed transitive closure papers define them."
-  pub stored : (n τ δ : ℕ) (S : Contacts) (T : List ℕ) → Fresh n τ δ S T → (u v : ℕ) → IsPair n u v
-      → (i : Interval) → List·Memᴰ i (cellsOf T u v) ↔ Minimal S δ u v i
-  -- "A question is answered yes when a journey fits its window and no when none does."
-  pub reach-yes : (n τ δ : ℕ) (S : Contacts) (T : List ℕ) → Fresh n τ δ S T → (u v first last : ℕ) → IsPair n u v → IsWindow τ δ first last
-      → (Q .reach T u v first last ≡ Yes) ↔ Fits S δ u v first last
-  pub reach-no : (n τ δ : ℕ) (S : Contacts) (T : List ℕ) → Fresh n τ δ S T → (u v first last : ℕ) → IsPair n u v → IsWindow τ δ first last
-      → (Q .reach T u v first last ≡ No) ↔ (¬ Fits S δ u v first last)
-  -- Earliest arrival from a first tick: the least arrival of fitting journeys, none exactly when none fits.
-  pub earliest-at : (n τ δ : ℕ) (S : Contacts) (T : List ℕ) → Fresh n τ δ S T → (u v first : ℕ) → IsPair n u v → 1 ≤ first → first ≤ τ + δ
-      → (e : ℕ) → (Q .earliest T u v first ≡ At e) ↔ Earliest S δ u v first e
-  pub earliest-none : (n τ δ : ℕ) (S : Contacts) (T : List ℕ) → Fresh n τ δ S T → (u v first : ℕ) → IsPair n u v → 1 ≤ first → first ≤ τ + δ
-      → (Q .earliest T u v first ≡ Nothing) ↔ ((i : Interval) → Journey S δ u v i → ¬ (first ≤ i .departure))
-  -- Latest departure by a last tick: the greatest departure of fitting journeys, none exactly when none fits.
-  pub latest-at : (n τ δ : ℕ) (S : Contacts) (T : List ℕ) → Fresh n τ δ S T → (u v last : ℕ) → IsPair n u v → 1 ≤ last → last ≤ τ + δ
-      → (d : ℕ) → (Q .latest T u v last ≡ At d) ↔ Latest S δ u v last d
-  pub latest-none : (n τ δ : ℕ) (S : Contacts) (T : List ℕ) → Fresh n τ δ S T → (u v last : ℕ) → IsPair n u v → 1 ≤ last → last ≤ τ + δ
-      → (Q .latest T u v last ≡ Nothing) ↔ ((i : Interval) → Journey S δ u v i → ¬ (i .arrival ≤ last))
-  -- Connected: every ordered pair of different animals is reached in the window.
-  pub connected-yes : (n τ δ : ℕ) (S : Contacts) (T : List ℕ) → Fresh n τ δ S T → (first last : ℕ) → IsWindow τ δ first last
-      → (Q .connected T first last ≡ Yes) ↔ AllFit S δ n first last
-  pub connected-no : (n τ δ : ℕ) (S : Contacts) (T : List ℕ) → Fresh n τ δ S T → (first last : ℕ) → IsWindow τ δ first last
-      → (Q .connected T first last ≡ No) ↔ (¬ AllFit S δ n first last)
-  -- Reached from u: the bits of the set record, and its count.
-  pub reached-found : (n τ δ : ℕ) (S : Contacts) (T : List ℕ) → Fresh n τ δ S T → (u first last : ℕ) → u < n → IsWindow τ δ first last → Q .reached T u first last ≡ Found
-  pub reached-eight : (T : List ℕ) (u first last : ℕ) → length (Q .reached-words T u first last) ≡ 8
-  pub reached-bit : (n τ δ : ℕ) (S : Contacts) (T : List ℕ) → Fresh n τ δ S T → (u first last : ℕ) → u < n → IsWindow τ δ first last
-      → (i : ℕ) → i < maxAnimals → BitSet (Q .reached-words T u first last) i ↔ ReachedFrom S δ n u first last i
-  pub reached-count : (n τ δ : ℕ) (S : Contacts) (T : List ℕ) → Fresh n τ δ S T → (u first last : ℕ) → u < n → IsWindow τ δ first last
-      → (l : List ℕ) × Sorted _<_ l × ((i : ℕ) → List·Memᴰ i l ↔ ReachedFrom S δ n u first last i) × (Q .reached-count T u first last ≡ length l)
-  -- "The chain shown for a yes is the one that document 01's rule names": a chain is named exactly when a journey fits,
-  -- and only one; its number of contacts is the answer, and its words stand at the buffer's start.
-  pub chain-named : (n τ δ : ℕ) (S : Contacts) (T : List ℕ) → Fresh n τ δ S T → (u v first last : ℕ) → IsPair n u v
-      → Fits S δ u v first last ↔ ((l : List Contact) × NamedChain S δ u v first last l)
-  pub chain-one : (S : Contacts) (δ u v first last : ℕ) (l m : List Contact) → NamedChain S δ u v first last l → NamedChain S δ u v first last m → l ≡ m
-  pub chain-shown : (n τ δ : ℕ) (S : Contacts) (T : List ℕ) → Fresh n τ δ S T → (u v first last : ℕ) → IsPair n u v → IsWindow τ δ first last → (B : List ℕ) → n ≤ length B + 1
-      → (l : List Contact) → NamedChain S δ u v first last l
-      → (Q .chain T u v first last B ≡ Chain (length l)) × (Q .chain-leaves T u v first last B ≡ map contactWord l ++ drop (length l) B)
-  -- Where no journey fits, the answer is "no journey" and the buffer keeps its words.
-  pub chain-none : (n τ δ : ℕ) (S : Contacts) (T : List ℕ) → Fresh n τ δ S T → (u v first last : ℕ) → IsPair n u v → IsWindow τ δ first last → (B : List ℕ) → n ≤ length B + 1
-      → (¬ Fits S δ u v first last) → (Q .chain T u v first last B ≡ NoJourney) × (Q .chain-leaves T u v first last B ≡ B)
+  -- intervals of those contacts, as the timed transitive closure papers define them": the contacts are the legal ones of any
+  -- list of calls, run on an opened table.
+  pub stored : (n τ δ : ℕ) (words : List ℕ) (A : List Contact) → E .open-answer n τ δ words ≡ Opened → (u v : ℕ) → IsPair n u v
+      → (i : Interval) → StoredIn n τ (tableAfter E n τ δ words A) u v i ↔ Minimal (LegalOf n τ A) δ u v i
+  -- The second and the third sentence, on any fresh table.
+  pub answered : (n τ δ : ℕ) (S : Contacts) (T : List ℕ) → Fresh n τ δ S T → AnsweredOn Q n τ δ S T

@@ -1,15 +1,22 @@
--- Demand 3 leaves nothing open: any two engines that meet it agree.
-use Prim.Native.Nat.{ℕ, _+_, _≤_}
+-- Any two engines that meet demand 3 agree on the tables, on which calls are accepted, on the answers of legal calls and on the logs; any two
+-- with questions that meet demand 2 agree on what their tables store and on the answers.
+use Prim.Native.Nat.{ℕ, _+_, _≤_, _<_}
 use mathlib.Core.Path.{_≡_}
 use mathlib.Core.Logic.{_↔_}
 use mathlib.Core.List.{List, List·Memᴰ}
 use lib.ListN.{length}
-use Rattle.journeys.specs.Journey.{Contact}
+use Rattle.journeys.specs.Journey.{Contact, Contacts, Interval}
+use Rattle.rules.specs.Limits.{maxAnimals}
 use Rattle.rules.specs.declared.OpenAnswer.the-variants.{Opened}
 use Rattle.rules.specs.Adding.{Legal}
 use Rattle.rules.specs.CallLists.{Engine, tableAfter, LegalOf, Accepted}
 use Rattle.rules.specs.Orders.{Sorted, Earlier}
+use Rattle.rules.specs.Windows.{IsWindow, IsPair}
+use Rattle.rules.specs.Fresh.{Fresh}
+use Rattle.rules.specs.Demand2.{Questions, StoredIn, BitSet, Demand2}
 use Rattle.rules.specs.Demand3.{Demand3}
+
+-- ---- demand 3
 
 -- Two engines agree on what list A leaves, on a table opened over some words, and on the calls that follow.
 pub record AgreeAfter (E F : Engine) (n τ δ : ℕ) (words : List ℕ) (A : List Contact) : Type 0 where
@@ -32,3 +39,28 @@ pub record Agree (E F : Engine) : Type 0 where
 
 abbrev pub Determined : Type 0
 Determined = (E F : Engine) → Demand3 E → Demand3 F → Agree E F
+
+-- ---- demand 2
+
+-- Two sets of questions agree on a table of n animals, τ ticks and carry time δ.
+pub record AgreeOn (Q R : Questions) (n τ δ : ℕ) (T : List ℕ) : Type 0 where
+  pub reach : (u v first last : ℕ) → IsPair n u v → IsWindow τ δ first last → Q .reach T u v first last ≡ R .reach T u v first last
+  pub earliest : (u v first : ℕ) → IsPair n u v → 1 ≤ first → first ≤ τ + δ → Q .earliest T u v first ≡ R .earliest T u v first
+  pub latest : (u v last : ℕ) → IsPair n u v → 1 ≤ last → last ≤ τ + δ → Q .latest T u v last ≡ R .latest T u v last
+  pub connected : (first last : ℕ) → IsWindow τ δ first last → Q .connected T first last ≡ R .connected T first last
+  pub reached : (u first last : ℕ) → u < n → IsWindow τ δ first last → Q .reached T u first last ≡ R .reached T u first last
+  pub reached-bits : (u first last : ℕ) → u < n → IsWindow τ δ first last
+      → (i : ℕ) → i < maxAnimals → BitSet (Q .reached-words T u first last) i ↔ BitSet (R .reached-words T u first last) i
+  pub reached-count : (u first last : ℕ) → u < n → IsWindow τ δ first last → Q .reached-count T u first last ≡ R .reached-count T u first last
+  pub chain : (u v first last : ℕ) → IsPair n u v → IsWindow τ δ first last → (B : List ℕ) → n ≤ length B + 1
+      → (Q .chain T u v first last B ≡ R .chain T u v first last B) × (Q .chain-leaves T u v first last B ≡ R .chain-leaves T u v first last B)
+
+pub record AgreeWith (E F : Engine) (Q R : Questions) : Type 1 where
+  -- The same intervals are stored after any list of calls on an opened table.
+  pub stored : (n τ δ : ℕ) (words : List ℕ) (A : List Contact) → E .open-answer n τ δ words ≡ Opened → F .open-answer n τ δ words ≡ Opened → (u v : ℕ) → IsPair n u v
+      → (i : Interval) → StoredIn n τ (tableAfter E n τ δ words A) u v i ↔ StoredIn n τ (tableAfter F n τ δ words A) u v i
+  -- The answers on any fresh table are the same.
+  pub answers : (n τ δ : ℕ) (S : Contacts) (T : List ℕ) → Fresh n τ δ S T → AgreeOn Q R n τ δ T
+
+abbrev pub DeterminedAnswers : Type 1
+DeterminedAnswers = (E F : Engine) (Q R : Questions) → Demand2 E Q → Demand2 F R → AgreeWith E F Q R

@@ -1,4 +1,4 @@
--- Wrong engines that demand 3 shuts out (document 01, last paragraph: "Reject").
+-- Wrong engines that demands 2 and 3 shut out (document 01, last paragraph: "Reject").
 use Prim.Native.Nat.{ℕ, _+_}
 use mathlib.Core.Bool.{Bool, true, false, cond, not, _&&_, _||_}
 use mathlib.Core.Option.{Option, none, some}
@@ -20,6 +20,7 @@ use Rattle.rules.specs.Layout.{tableWords, animals, ticks, carry, cellsO
 use Rattle.rules.specs.Adding.{addRefusal, holds, addedCells, cellsChanged}
 use Rattle.rules.specs.Logs.{heldContacts, logWords, writeRefusal}
 use Rattle.rules.specs.CallLists.{Engine, engine}
+use Rattle.rules.specs.Demand2.{Questions, Demand2}
 use Rattle.rules.specs.Demand3.{Demand3}
 
 -- The part that is given, else document 01's.
@@ -149,3 +150,12 @@ pub record Rejected : Type 0 where
   pub refuses-openings : ¬ Demand3 refusesOpenings
   pub unsorted-log : ¬ Demand3 unsortedLog
   pub repeats-in-log : ¬ Demand3 repeatsInLog
+
+-- Those whose tables do not hold the minimal intervals do not meet demand 2, whatever their questions answer.
+pub record RejectedTables : Type 1 where
+  pub leaves-table : (Q : Questions) → ¬ Demand2 leavesTable Q
+  pub lone-contacts : (Q : Questions) → ¬ Demand2 loneContacts Q
+  pub joins-earlier : (Q : Questions) → ¬ Demand2 joinsEarlier Q
+  pub joins-later : (Q : Questions) → ¬ Demand2 joinsLater Q
+  pub first-pair-only : (Q : Questions) → ¬ Demand2 firstPairOnly Q
+  pub keeps-displaced : (Q : Questions) → ¬ Demand2 keepsDisplaced Q

@@ -1,5 +1,6 @@
 -- Wrong answers that demand 2 shuts out (document 01, last paragraph: "Reject").
 use Prim.Native.Nat.{ℕ, zero, suc, _-_}
+use mathlib.Core.Path.{_≡_}
 use mathlib.Core.Option.{Option, none, some}
 use mathlib.Core.List.{List, [], _∷_, map}
 use lib.ListN.{replicate}
@@ -12,7 +13,10 @@ use Rattle.rules.specs.Answers.{unless, askAnswerOf}
 use Rattle.rules.specs.Layout.{animals, cellsOf}
 use Rattle.rules.specs.Questions.{reaches, reachRefusal}
 use Rattle.rules.specs.Chains.{Lead, Lowest, nobody, animal, orElse, leads, follow, ofKept, chainOf, chainRefusal, chainAnswerOf, chainWords}
-use Rattle.rules.specs.Demand2.{Questions, questions, Demand2}
+use Rattle.rules.specs.declared.OpenAnswer.the-variants.{Opened}
+use Rattle.rules.specs.Opening.{openAnswer}
+use Rattle.rules.specs.CallLists.{Engine, engine, tableAfter, LegalOf}
+use Rattle.rules.specs.Demand2.{Questions, questions, AnsweredOn, Demand2}
 use Rattle.rules.specs.Wrong.{given}
 
 -- The questions of document 01, but for the parts that are given: reach, earliest arrival, connected, the set's words, its count, and the
@@ -106,16 +110,17 @@ highestAnimal = inOrderOf (λ T. downFrom (animals T))
 abbrev pub loadingOrder : List Contact → Questions
 loadingOrder loaded = inOrderOf (λ T. map (λ k. k .to) loaded)
 
--- None of them meets demand 2.
+-- None of them meets demand 2, whatever the engine; the chain in loading order goes wrong on a table into which that very list was loaded.
 pub record RejectedAnswers : Type 1 where
-  pub always-no : ¬ Demand2 alwaysNo
-  pub always-yes : ¬ Demand2 alwaysYes
-  pub ends-later : ¬ Demand2 endsLater
-  pub begins-later : ¬ Demand2 beginsLater
-  pub never-arrives : ¬ Demand2 neverArrives
-  pub always-connected : ¬ Demand2 alwaysConnected
-  pub reaches-nobody : ¬ Demand2 reachesNobody
-  pub counts-nobody : ¬ Demand2 countsNobody
-  pub never-chained : ¬ Demand2 neverChained
-  pub highest-animal : ¬ Demand2 highestAnimal
-  pub loading-order : ¬ ((loaded : List Contact) → Demand2 (loadingOrder loaded))
+  pub always-no : (E : Engine) → ¬ Demand2 E alwaysNo
+  pub always-yes : (E : Engine) → ¬ Demand2 E alwaysYes
+  pub ends-later : (E : Engine) → ¬ Demand2 E endsLater
+  pub begins-later : (E : Engine) → ¬ Demand2 E beginsLater
+  pub never-arrives : (E : Engine) → ¬ Demand2 E neverArrives
+  pub always-connected : (E : Engine) → ¬ Demand2 E alwaysConnected
+  pub reaches-nobody : (E : Engine) → ¬ Demand2 E reachesNobody
+  pub counts-nobody : (E : Engine) → ¬ Demand2 E countsNobody
+  pub never-chained : (E : Engine) → ¬ Demand2 E neverChained
+  pub highest-animal : (E : Engine) → ¬ Demand2 E highestAnimal
+  pub loading-order : ¬ ((n τ δ : ℕ) (words : List ℕ) (loaded : List Contact) → openAnswer n τ δ words ≡ Opened
+      → AnsweredOn (loadingOrder loaded) n τ δ (LegalOf n τ loaded) (tableAfter engine n τ δ words loaded))
