@@ -6,7 +6,7 @@ use mathlib.Core.Option.{Option, none, some}
 use mathlib.Core.List.{List, [], _++_, map}
 use Prim.Native.Nat.{ℕ, zero, suc, _+_, _-_, _≤_, _<_}
 use native.Mathlib.Omega.{arith}
-use lib.ListN.{length, getD, drop, length-append, length-map, length-drop, replicate}
+use lib.ListN.{length, getD, take, drop, length-append, length-map, length-take, length-drop, replicate}
 use lib.Dec.{leb, ltb, eqb}
 use borrow.Author.Tests.{leb-true}
 use Rattle.journeys.specs.Journey.{Contact, contact, interval}
@@ -34,18 +34,18 @@ use Rattle.rules.specs.Opening.{openRefusal, openAnswer, openLeaves}
 use Rattle.rules.specs.Adding.{Legal, addRefusal, addedCells, holds, cellsChanged, addAnswer, addLeaves}
 use Rattle.rules.specs.Logs.{heldContacts, logWords, writeRefusal, writeAnswer, writeLeaves}
 use Rattle.rules.specs.Fresh.{Fresh}
-use Rattle.rules.specs.CallLists.{LegalOf}
+use Rattle.rules.specs.CallLists.{LegalOf, Accepted}
 use Rattle.rules.specs.Reading.{loggedContacts, readRefusal, different, readAnswer, readLeaves}
 use Rattle.rules.specs.Folds.{countBelow, within}
 use Rattle.rules.specs.Windows.{fitsWindow, windowInRange, inOrder}
-use Rattle.rules.specs.Questions.{setAnswerOf, isReached, setWords, reachedRefusal, reachedAnswer, reachedWords, reachedCount}
+use Rattle.rules.specs.Questions.{setAnswerOf, isReached, setWords, reachedRefusal, reachedAnswer, reachedWords, reachedCount, reachedLeaves}
 use Rattle.rules.specs.Chains.{nowhere, there, leadsOn, leads, Lowest, nobody, animal, lowest, prepend, follow, chainFrom, withTick, chainOf, chainRefusal, chainAnswerOf, chainAnswer, chainWords, chainLeaves}
 use Rattle.rules.specs.Counting.{fullTally, tallySum, countedAnswer, countedLeaves, raised, countedTally}
 use Rattle.rules.specs.QuestionList.{asked, listRefusal, listAnswerOf, listAnswer, listLeaves}
 use Rattle.rules.specs.Demand1.{Demand1}
 use Rattle.rules.proofs.Decode.{table-length, table-passes}
 use Rattle.rules.proofs.Sound.{table-sizes, passes-good, opens-length}
-use Rattle.rules.proofs.Judged.{ensure-iff, unless-cases, open-iff, add-iff}
+use Rattle.rules.proofs.Judged.{ensure-iff, unless-cases, open-iff, add-iff, accepted-none}
 use Rattle.rules.proofs.Fresh.{add-good, empty-good, fresh-length, fresh-passes}
 use Rattle.rules.proofs.Runs.{run-fresh}
 use Rattle.rules.proofs.Reading.{Readable, read-iff, read-opens, log-length}
@@ -165,6 +165,19 @@ counted-full-kept t T k = counted-cases t T k (λ b a L s. a ≡ AddRefused Tall
 counted-length : (t : Tally) (T : List ℕ) (k : Contact) → length (countedLeaves t T k) ≡ length T
 counted-length t T k = counted-cases t T k (λ b a L s. length L ≡ length T) (λ h. refl) (λ h. add-length T k)
 
+-- A counted add keeps a table that passes 5 and 6.
+counted-valid : (t : Tally) (T : List ℕ) (k : Contact) → ValidTable T → ValidTable (countedLeaves t T k)
+counted-valid t T k p = counted-cases t T k (λ b a L s. ValidTable L) (λ h. p) (λ h. add-valid T k p)
+
+-- A legal contact is accepted.
+legal-accepted : (T : List ℕ) (k : Contact) → ValidTable T → Legal (animals T) (ticks T) k → Accepted (addAnswer T k)
+legal-accepted T k p l = accepted-none T k .1 (add-iff T k .1 (p, l))
+
+-- So it is by a counted add whose tally has room.
+legal-counted : (t : Tally) (T : List ℕ) (k : Contact) → ValidTable T → Legal (animals T) (ticks T) k → t .new + t .known + t .refused < fullTally → Accepted (countedAnswer t T k)
+unfolding tallySum
+legal-counted t T k p l r = counted-cases t T k (λ b a L s. Accepted a) (λ h. absurd (omega arith)) (λ h. legal-accepted T k p l)
+
 -- ---- a list of question records
 
 -- A refused list stays as it was.
@@ -249,6 +262,22 @@ reached-empty T u first last r = go (reachedRefusal T u first last)
     go none e = never cc
     go (some s) e = (refl, refl)
 
+-- By cases: refused and as they were, or the set at the front.
+reached-cases : (T : List ℕ) (u first last : ℕ) (B : List ℕ) (P : Option Refusal → List ℕ → Type 0) → ((r : Refusal) → P (some r) B)
+    → P none (take (length B) (setWords T u first last) ++ drop 8 B) → P (reachedRefusal T u first last) (reachedLeaves T u first last B)
+unfolding reachedLeaves
+reached-cases T u first last B P a b = unless-cases (reachedRefusal T u first last) P (λ r e. a r) (λ e. b)
+
+reached-kept : (T : List ℕ) (u first last : ℕ) (B : List ℕ) (r : Refusal) → reachedAnswer T u first last ≡ SetRefused r → reachedLeaves T u first last B ≡ B
+unfolding reachedAnswer
+reached-kept T u first last B r = reached-cases T u first last B (λ o L. setAnswerOf o ≡ SetRefused r → L ≡ B) (λ s e. refl) (λ e. never cc)
+
+reached-length : (T : List ℕ) (u first last : ℕ) (B : List ℕ) → length (reachedLeaves T u first last B) ≡ length B
+unfolding setWords
+reached-length T u first last B =
+    reached-cases T u first last B (λ o L. length L ≡ length B) (λ r. refl)
+    (length-append (take (length B) (setWords T u first last)) (drop 8 B) ∙ omega (arith, length-take (length B) (setWords T u first last), length-drop 8 B))
+
 -- ---- the chain
 
 abbrev size : Option (List Contact) → ℕ
@@ -326,7 +355,8 @@ demand1 =
       add-refused = add-kept;
       write-refused = write-kept;
       read-refused = read-kept;
-      reached-refused = reached-empty;
+      reached-refused = reached-kept;
+      reached-empty = reached-empty;
       chain-refused = chain-kept;
       counted-refused = counted-kept;
       list-refused = list-kept;
@@ -339,9 +369,12 @@ demand1 =
       read-length = read-length;
       counted-length = counted-length;
       list-length = list-length;
+      reached-length = reached-length;
       chain-length = chain-length;
       open-valid = open-valid;
       read-valid = read-valid;
       add-valid = add-valid;
-      legal-accepted = λ T k p l r e. add-accepted T k r e (add-iff T k .1 (p, l));
+      counted-valid = counted-valid;
+      legal-accepted = legal-accepted;
+      legal-counted = legal-counted;
     }

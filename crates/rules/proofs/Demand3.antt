@@ -22,7 +22,6 @@ use Rattle.rules.specs.declared.Refusal.the-variants.{NotOpen, NotWellFo
 use Rattle.rules.specs.declared.AddAnswer.{AddAnswer}
 use Rattle.rules.specs.declared.AddAnswer.the-variants.{New, Known, Refused as AddRefused}
 use Rattle.rules.specs.declared.WriteAnswer.the-variants.{Written}
-use Rattle.rules.specs.Answers.{addAnswerOf}
 use Rattle.rules.specs.Folds.{flat, sumBelow, countBelow}
 use Rattle.rules.specs.Layout.{tableLength, cellWords, tableWords, cellAt, cellOf, animals, carry, cellsOf}
 use Rattle.rules.specs.Checks.{isOpen, wellFormed, ValidTable}
@@ -38,7 +37,7 @@ use Rattle.rules.proofs.Folds.{flat-member, member-flat, sum-same, coun
 use Rattle.rules.proofs.Decode.{cell-again, table-cell}
 use Rattle.rules.proofs.Sound.{opens-first}
 use Rattle.rules.proofs.Changes.{sameCell-outcome}
-use Rattle.rules.proofs.Judged.{none-some, ensure-iff, open-iff, open-none}
+use Rattle.rules.proofs.Judged.{ensure-iff, open-iff, open-none, accepted-none}
 use Rattle.rules.proofs.Fresh.{fresh-good, fresh-animals, fresh-ticks, fresh-carry, fresh-passes, fresh-cells, fresh-accepts, add-fresh, fresh-map, fresh-unique}
 use Rattle.rules.proofs.Sorted.{sorted-flat, sorted-one, member-one}
 use Rattle.rules.proofs.Held.{held-sorted, fresh-holds, fresh-held}
@@ -233,18 +232,8 @@ module _ {n τ δ : ℕ} {S : Contacts} {T : List ℕ} (f : Fresh n τ δ S T) (
 -- ---- answers and logs of a fresh table
 
 module _ {n τ δ : ℕ} {S : Contacts} {T : List ℕ} (f : Fresh n τ δ S T) where
-  accepted-of : (b : Bool) (m : ℕ) → Accepted (cond b (Known m) (New m))
-  accepted-of true m = tt
-  accepted-of false m = tt
-
   pub fresh-accepted : (k : Contact) → Accepted (addAnswer T k) ↔ Legal n τ k
-  unfolding addAnswer
-  fresh-accepted k = go (addRefusal T k) refl
-    where
-      go : (o : Option Refusal) → addRefusal T k ≡ o
-          → Accepted (addAnswerOf o (cond (Adding.holds T k) (Known (cellsChanged (animals T) (cellsOf T) (addedCells T k))) (New (cellsChanged (animals T) (cellsOf T) (addedCells T k))))) ↔ Legal n τ k
-      go none e = (λ a. fresh-accepts f k .0 e, λ l. accepted-of (Adding.holds T k) (cellsChanged (animals T) (cellsOf T) (addedCells T k)))
-      go (some r) e = (λ a. absurd a, λ l. none-some (addRefusal T k) r (fresh-accepts f k .1 l) e)
+  fresh-accepted k = let a = accepted-none T k in let b = fresh-accepts f k in (λ h. b .0 (a .0 h), λ h. a .1 (b .1 h))
 
   write-accepts : (B : List ℕ) → length (heldContacts T) + 2 ≤ length B → writeRefusal T B ≡ none
   unfolding writeRefusal

@@ -14,13 +14,15 @@ use Rattle.journeys.proofs.Tests.{never}
 use Rattle.rules.specs.declared.Refusal.{Refusal}
 use Rattle.rules.specs.declared.Refusal.the-variants.{AnimalsBeyondLimit, TicksBeyondLimit, CarryBeyondLimit, WrongLength, NotOpen, NotWellFormed, NoSuchAnimal, SameAnimal, TickOutOfRange}
 use Rattle.rules.specs.declared.OpenAnswer.the-variants.{Opened}
-use Rattle.rules.specs.Answers.{ensure, unless, openAnswerOf}
+use Rattle.rules.specs.declared.AddAnswer.the-variants.{New, Known}
+use Rattle.rules.specs.Answers.{ensure, unless, openAnswerOf, addAnswerOf}
 use Rattle.rules.specs.Folds.{within}
-use Rattle.rules.specs.Layout.{tableLength, animals, ticks}
+use Rattle.rules.specs.Layout.{tableLength, animals, ticks, cellsOf}
 use Rattle.rules.specs.Checks.{isOpen, wellFormed, ValidTable}
 use Rattle.rules.specs.Limits.{maxAnimals, maxTicks, maxCarry}
 use Rattle.rules.specs.Opening.{Sizes, ensureSizes, openRefusal, openAnswer}
-use Rattle.rules.specs.Adding.{Legal, addRefusal}
+use Rattle.rules.specs.Adding.{Legal, cellsChanged, addRefusal, addedCells, holds, addAnswer}
+use Rattle.rules.specs.CallLists.{Accepted}
 use Rattle.rules.proofs.Folds.{and-left, and-right, and-intro}
 
 -- ---- checks in their order
@@ -144,3 +146,19 @@ add-iff T k = (to, of)
             ),
           ),
         )
+
+-- An add is accepted exactly when nothing refuses it.
+pub accepted-none : (T : List ℕ) (k : Contact) → Accepted (addAnswer T k) ↔ (addRefusal T k ≡ none)
+unfolding addAnswer
+accepted-none T k = go (addRefusal T k)
+  where
+    m : ℕ
+    m = cellsChanged (animals T) (cellsOf T) (addedCells T k)
+
+    taken : (b : Bool) → Accepted (cond b (Known m) (New m))
+    taken true = tt
+    taken false = tt
+
+    go : (o : Option Refusal) → Accepted (addAnswerOf o (cond (holds T k) (Known m) (New m))) ↔ (o ≡ none)
+    go none = (λ a. refl, λ e. taken (holds T k))
+    go (some r) = (λ a. absurd a, λ e. none-some (some r) r e refl)

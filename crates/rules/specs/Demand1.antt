@@ -1,5 +1,5 @@
 -- Demand 1 of the tender, with its own words above its parts.
-use Prim.Native.Nat.{ℕ, _+_, _≤_}
+use Prim.Native.Nat.{ℕ, _+_, _≤_, _<_}
 use mathlib.Core.Path.{_≡_}
 use mathlib.Core.Logic.{_↔_, _≢_}
 use mathlib.Core.List.{List}
@@ -21,8 +21,9 @@ use Rattle.rules.specs.Checks.{ValidTable}
 use Rattle.rules.specs.Opening.{openAnswer, openLeaves}
 use Rattle.rules.specs.Adding.{Legal, addAnswer, addLeaves}
 use Rattle.rules.specs.Logs.{writeAnswer, writeLeaves}
+use Rattle.rules.specs.CallLists.{Accepted}
 use Rattle.rules.specs.Reading.{readAnswer, readLeaves}
-use Rattle.rules.specs.Questions.{reachedAnswer, reachedWords, reachedCount}
+use Rattle.rules.specs.Questions.{reachedAnswer, reachedWords, reachedCount, reachedLeaves}
 use Rattle.rules.specs.Chains.{chainAnswer, chainLeaves}
 use Rattle.rules.specs.Counting.{fullTally, countedAnswer, countedLeaves, countedTally}
 use Rattle.rules.specs.QuestionList.{listAnswer, listLeaves}
@@ -37,6 +38,7 @@ pub record Demand1 : Type 0 where
   pub read-refused : (L T : List ℕ) (r : Refusal) → readAnswer L T ≡ ReadRefused r → readLeaves L T ≡ T
   pub chain-refused : (T : List ℕ) (u v first last : ℕ) (B : List ℕ) (r : Refusal) → chainAnswer T u v first last B ≡ ChainRefused r → chainLeaves T u v first last B ≡ B
   pub counted-refused : (t : Tally) (T : List ℕ) (k : Contact) (r : Refusal) → countedAnswer t T k ≡ AddRefused r → countedLeaves t T k ≡ T
+  pub reached-refused : (T : List ℕ) (u first last : ℕ) (B : List ℕ) (r : Refusal) → reachedAnswer T u first last ≡ SetRefused r → reachedLeaves T u first last B ≡ B
   pub list-refused : (T : List ℕ) (l : List Question) (r : Refusal) → listAnswer T l ≡ ListRefused r → listLeaves T l ≡ l
   -- "save that a counted add counts it unless its tally is full"
   pub counted-counts : (t : Tally) (T : List ℕ) (k : Contact) (r : Refusal) → countedAnswer t T k ≡ AddRefused r → r ≢ TallyFull
@@ -44,7 +46,7 @@ pub record Demand1 : Type 0 where
   pub counted-full : (t : Tally) (T : List ℕ) (k : Contact) → (countedAnswer t T k ≡ AddRefused TallyFull) ↔ (fullTally ≤ t .new + t .known + t .refused)
   pub counted-full-kept : (t : Tally) (T : List ℕ) (k : Contact) → countedAnswer t T k ≡ AddRefused TallyFull → countedTally t T k ≡ t
   -- The other questions only read; a refused question for the animals reached gives an empty set.
-  pub reached-refused : (T : List ℕ) (u first last : ℕ) (r : Refusal) → reachedAnswer T u first last ≡ SetRefused r
+  pub reached-empty : (T : List ℕ) (u first last : ℕ) (r : Refusal) → reachedAnswer T u first last ≡ SetRefused r
       → (reachedWords T u first last ≡ replicate 8 0) × (reachedCount T u first last ≡ 0)
   -- The memory lent keeps its ends.
   pub open-length : (n τ δ : ℕ) (T : List ℕ) → length (openLeaves n τ δ T) ≡ length T
@@ -53,11 +55,14 @@ pub record Demand1 : Type 0 where
   pub read-length : (L T : List ℕ) → length (readLeaves L T) ≡ length T
   pub counted-length : (t : Tally) (T : List ℕ) (k : Contact) → length (countedLeaves t T k) ≡ length T
   pub list-length : (T : List ℕ) (l : List Question) → length (listLeaves T l) ≡ length l
+  pub reached-length : (T : List ℕ) (u first last : ℕ) (B : List ℕ) → length (reachedLeaves T u first last B) ≡ length B
   pub chain-length : (T : List ℕ) (u v first last : ℕ) (B : List ℕ) → length (chainLeaves T u v first last B) ≡ length B
-  -- Opening, reading a log, and every add on a table that passes 5 and 6, leave a table that passes them.
+  -- Opening, reading a log, and every add on a table that passes 5 and 6, counted or not, leave a table that passes them.
   pub open-valid : (n τ δ : ℕ) (T : List ℕ) → openAnswer n τ δ T ≡ Opened → ValidTable (openLeaves n τ δ T)
   pub read-valid : (L T : List ℕ) (k : ℕ) → readAnswer L T ≡ Read k → ValidTable (readLeaves L T)
   pub add-valid : (T : List ℕ) (k : Contact) → ValidTable T → ValidTable (addLeaves T k)
+  pub counted-valid : (t : Tally) (T : List ℕ) (k : Contact) → ValidTable T → ValidTable (countedLeaves t T k)
   -- "Once a table is opened, no legal contact is refused for want of a row": on any table that passes 5 and 6 a legal
-  -- contact is accepted.
-  pub legal-accepted : (T : List ℕ) (k : Contact) → ValidTable T → Legal (animals T) (ticks T) k → (r : Refusal) → addAnswer T k ≡ AddRefused r → ⊥
+  -- contact is accepted, by a counted add too while its tally has room.
+  pub legal-accepted : (T : List ℕ) (k : Contact) → ValidTable T → Legal (animals T) (ticks T) k → Accepted (addAnswer T k)
+  pub legal-counted : (t : Tally) (T : List ℕ) (k : Contact) → ValidTable T → Legal (animals T) (ticks T) k → t .new + t .known + t .refused < fullTally → Accepted (countedAnswer t T k)
