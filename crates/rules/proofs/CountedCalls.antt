@@ -185,7 +185,7 @@ run-standing {n} {τ} {δ} (c ∷ A) {S} {s} g = first (λ R r w. run-standing A
     first : ((R : Contacts) (r : TallyAndTable) → Standing n τ δ R r → Standing n τ δ (Taken R r A) (runCounted r A)) → Standing n τ δ (Taken S s (c ∷ A)) (runCounted (countedCall s c) A)
     first rest =
         let w = counted-cases (s .tally) (s .table) c (λ b a L t. Standing n τ δ (TakenFirst S c a (record { tally = t; table = L }) A) (runCounted (record { tally = t; table = L }) A))
-            (λ h. passed-over (AddRefused TallyFull) s (λ a. a) (rest S s g)) (λ h. counted-one (addRefusal (s .table) c) refl (λ R w. rest R (raisedCall s c) w)) in
+        (λ h. passed-over (AddRefused TallyFull) s (λ a. a) (rest S s g)) (λ h. counted-one (addRefusal (s .table) c) refl (λ R w. rest R (raisedCall s c) w)) in
         record { fresh = fresh-map (w .fresh) (λ k. let i = accepted-iff s c A k in (⊎-elim inl (λ a. inr (i .1 a)), ⊎-elim inl (λ a. inr (i .0 a)))); number = w .number }
 
 -- ---- what is promised

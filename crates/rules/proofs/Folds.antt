@@ -212,3 +212,11 @@ member-map f (a ∷ l) b m = ⊎-elim (λ e. (a, List·Memᴰ·head refl, e)) (�
 pub map-member : {A B : Type 0} (f : A → B) (l : List A) (a : A) → List·Memᴰ a l → List·Memᴰ (f a) (map f l)
 map-member f (b ∷ l) a (List·Memᴰ·head e) = List·Memᴰ·head (ap f e)
 map-member f (b ∷ l) a (List·Memᴰ·tail m) = List·Memᴰ·tail (map-member f l a m)
+
+-- Two functions that map a list alike agree on its elements.
+pub map-agree : {A B : Type 0} (f g : A → B) (l : List A) → map f l ≡ map g l → (a : A) → List·Memᴰ a l → f a ≡ g a
+map-agree f g [] e a m = absurd (List·Memᴰ·not-nil m)
+map-agree f g (b ∷ l) e a m =
+    let p : f b ≡ g b = cc in
+    let q : map f l ≡ map g l = cc in
+    ⊎-elim (λ h. subst (λ c. f c ≡ g c) (sym h) p) (map-agree f g l q a) (List·Memᴰ·cases-cons m)

@@ -1,38 +1,70 @@
--- Document 01's marked examples P1 to P9, as one table: contacts, a question and its answer in each row.
+-- Worked examples as tables: contacts, questions and what each is answered. `marked` has document 01's examples P1 to P9, `worked` those that it
+-- leaves unmarked and others on the session's table.
 use Prim.Native.Nat.{ℕ}
 use mathlib.Core.Path.{_≡_}
-use mathlib.Core.Bool.{Bool, true, false, _&&_}
-use mathlib.Core.Option.{Option, none, some}
 use mathlib.Core.List.{List, [], _∷_, List·Memᴰ}
-use lib.ListN.{length, replicate}
-use lib.Dec.{eqb}
+use lib.ListN.{replicate}
 use Rattle.journeys.specs.Journey.{Contact, contact, interval}
 use Rattle.journeys.specs.Cell.{Cell}
+use Rattle.words.specs.Words.{contactWord}
+use Rattle.rules.specs.declared.Refusal.the-variants.{NoSuchAnimal, SameAnimal, TickOutOfRange, ChainBufferTooShort}
+use Rattle.rules.specs.declared.AddAnswer.{AddAnswer}
+use Rattle.rules.specs.declared.AddAnswer.the-variants.{New, Known, Refused as AddRefused}
 use Rattle.rules.specs.declared.AskAnswer.{AskAnswer}
 use Rattle.rules.specs.declared.AskAnswer.the-variants.{Yes, No, Refused as AskRefused}
 use Rattle.rules.specs.declared.TickAnswer.{TickAnswer}
 use Rattle.rules.specs.declared.TickAnswer.the-variants.{At, Nothing, Refused as TickRefused}
+use Rattle.rules.specs.declared.SetAnswer.{SetAnswer}
+use Rattle.rules.specs.declared.SetAnswer.the-variants.{Found, Refused as SetRefused}
+use Rattle.rules.specs.declared.ChainAnswer.{ChainAnswer}
+use Rattle.rules.specs.declared.ChainAnswer.the-variants.{Chain, NoJourney, Refused as ChainRefused}
 use Rattle.rules.specs.Layout.{tableLength, cellsOf}
-use Rattle.rules.specs.Adding.{sameCell}
-use Rattle.rules.specs.Questions.{reachAnswer, earliestAnswer, latestAnswer}
-use Rattle.rules.specs.Chains.{chainOf}
+use Rattle.rules.specs.Adding.{addAnswer}
+use Rattle.rules.specs.Questions.{reachAnswer, earliestAnswer, latestAnswer, connectedAnswer, reachedAnswer, reachedCount, reachedLeaves}
+use Rattle.rules.specs.Chains.{chainAnswer, chainLeaves}
+use Rattle.rules.specs.Claims.{claimedAnswer}
 use Rattle.rules.specs.CallLists.{engine, tableAfter}
 
--- A question with its expected answer.
-pub data Row : Type 0 where
-  asks-reach : (u v first last : ℕ) → AskAnswer → Row
-  asks-earliest : (u v first : ℕ) → TickAnswer → Row
-  asks-latest : (u v last : ℕ) → TickAnswer → Row
-  asks-chain : (u v first last : ℕ) → List Contact → Row
-  asks-cell : (u v : ℕ) → Cell → Row
+-- A call on a table, with the words lent to it beside the table.
+pub data Call : Type 0 where
+  cell : (u v : ℕ) → Call
+  reach : (u v first last : ℕ) → Call
+  earliest : (u v first : ℕ) → Call
+  latest : (u v last : ℕ) → Call
+  connected : (first last : ℕ) → Call
+  reached : (u first last : ℕ) (set : List ℕ) → Call
+  chain : (u v first last : ℕ) (buffer : List ℕ) → Call
+  claimed : (u v first last : ℕ) (words : List ℕ) → Call
+  add : (u v t : ℕ) → Call
 
--- What the row says of a table.
-abbrev pub Says : List ℕ → Row → Type 0
-Says T (asks-reach u v first last a) = reachAnswer T u v first last ≡ a
-Says T (asks-earliest u v first a) = earliestAnswer T u v first ≡ a
-Says T (asks-latest u v last a) = latestAnswer T u v last ≡ a
-Says T (asks-chain u v first last l) = chainOf T u v first last ≡ some l
-Says T (asks-cell u v c) = cellsOf T u v ≡ c
+-- What it gives: its answer, and the words left where some are written.
+pub data Given : Type 0 where
+  intervals : Cell → Given
+  asked : AskAnswer → Given
+  ticked : TickAnswer → Given
+  set : SetAnswer → (count : ℕ) → (left : List ℕ) → Given
+  chained : ChainAnswer → (left : List ℕ) → Given
+  added : AddAnswer → Given
+
+-- What the call gives on the table.
+abbrev pub gives : List ℕ → Call → Given
+gives T (cell u v) = intervals (cellsOf T u v)
+gives T (reach u v first last) = asked (reachAnswer T u v first last)
+gives T (earliest u v first) = ticked (earliestAnswer T u v first)
+gives T (latest u v last) = ticked (latestAnswer T u v last)
+gives T (connected first last) = asked (connectedAnswer T first last)
+gives T (reached u first last B) = set (reachedAnswer T u first last) (reachedCount T u first last) (reachedLeaves T u first last B)
+gives T (chain u v first last B) = chained (chainAnswer T u v first last B) (chainLeaves T u v first last B)
+gives T (claimed u v first last ws) = asked (claimedAnswer T u v first last ws)
+gives T (add u v t) = added (addAnswer T (contact u v t))
+
+-- A call and what it gives.
+pub record Row : Type 0 where
+  pub call : Call
+  pub given : Given
+
+abbrev is : Call → Given → Row
+is c g = record { call = c; given = g }
 
 -- A table given by its opening and its contacts, with the rows about it.
 pub record ExampleTable : Type 0 where
@@ -44,6 +76,10 @@ pub record ExampleTable : Type 0 where
 
 abbrev pub exampleTable : ExampleTable → List ℕ
 exampleTable s = tableAfter engine (s .animals) (s .ticks) (s .carry) (replicate (tableLength (s .animals) (s .ticks)) 0) (s .contacts)
+
+-- Every row of every table holds.
+abbrev pub AllHold : List ExampleTable → Type 0
+AllHold l = (s : ExampleTable) → List·Memᴰ s l → (r : Row) → List·Memᴰ r (s .rows) → gives (exampleTable s) (r .call) ≡ r .given
 
 abbrev session : List Contact
 session = contact 0 1 1 ∷ contact 0 1 2 ∷ contact 1 3 4 ∷ []
@@ -57,33 +93,93 @@ marked =
       carry = 1;
       contacts = session;
       rows =
-          asks-reach 0 3 1 5 Yes
-          ∷ asks-reach 0 3 2 5 Yes
-          ∷ asks-reach 0 3 1 4 No
-          ∷ asks-reach 0 3 3 7 No
-          ∷ asks-reach 3 0 1 7 No
-          ∷ asks-earliest 0 3 2 (At 5)
-          ∷ asks-earliest 0 3 3 Nothing
-          ∷ asks-latest 0 3 5 (At 2)
-          ∷ asks-latest 0 3 4 Nothing
-          ∷ asks-chain 0 3 1 7 (contact 0 1 2 ∷ contact 1 3 4 ∷ [])
+          is (reach 0 3 1 5) (asked Yes)
+          ∷ is (reach 0 3 2 5) (asked Yes)
+          ∷ is (reach 0 3 1 4) (asked No)
+          ∷ is (reach 0 3 3 7) (asked No)
+          ∷ is (reach 3 0 1 7) (asked No)
+          ∷ is (earliest 0 3 2) (ticked (At 5))
+          ∷ is (earliest 0 3 3) (ticked Nothing)
+          ∷ is (latest 0 3 5) (ticked (At 2))
+          ∷ is (latest 0 3 4) (ticked Nothing)
+          ∷ is (chain 0 3 1 7 (91 ∷ 92 ∷ 93 ∷ 94 ∷ [])) (chained (Chain 2) (contactWord (contact 0 1 2) ∷ contactWord (contact 1 3 4) ∷ 93 ∷ 94 ∷ []))
           ∷ [];
     }
-    ∷ record { animals = 4; ticks = 6; carry = 2; contacts = session; rows = asks-cell 0 3 (interval 2 6 ∷ []) ∷ [] }
-    ∷ record { animals = 4; ticks = 6; carry = 3; contacts = session; rows = asks-cell 0 3 (interval 1 7 ∷ []) ∷ [] }
+    ∷ record { animals = 4; ticks = 6; carry = 2; contacts = session; rows = is (cell 0 3) (intervals (interval 2 6 ∷ [])) ∷ [] }
+    ∷ record { animals = 4; ticks = 6; carry = 3; contacts = session; rows = is (cell 0 3) (intervals (interval 1 7 ∷ [])) ∷ [] }
     ∷ record {
       animals = 5;
       ticks = 6;
       carry = 1;
       contacts = contact 0 2 1 ∷ contact 2 3 2 ∷ contact 0 1 1 ∷ contact 1 3 4 ∷ contact 3 4 6 ∷ [];
       rows =
-          asks-cell 0 3 (interval 1 3 ∷ [])
-          ∷ asks-cell 0 4 (interval 1 7 ∷ [])
-          ∷ asks-chain 0 4 1 7 (contact 0 1 1 ∷ contact 1 3 4 ∷ contact 3 4 6 ∷ [])
+          is (cell 0 3) (intervals (interval 1 3 ∷ []))
+          ∷ is (cell 0 4) (intervals (interval 1 7 ∷ []))
+          ∷ is (chain 0 4 1 7 (91 ∷ 92 ∷ 93 ∷ 94 ∷ [])) (chained (Chain 3) (contactWord (contact 0 1 1) ∷ contactWord (contact 1 3 4) ∷ contactWord (contact 3 4 6) ∷ 94 ∷ []))
           ∷ [];
     }
     ∷ []
 
--- Every row of every sheet holds.
 abbrev pub Marked : Type 0
-Marked = (s : ExampleTable) → List·Memᴰ s marked → (r : Row) → List·Memᴰ r (s .rows) → Says (exampleTable s) r
+Marked = AllHold marked
+
+-- On the session's table: connected, reached and claimed, the limits of ticks and windows, buffers too short; then tables that are connected,
+-- one of them of a single animal.
+abbrev pub worked : List ExampleTable
+worked =
+    record {
+      animals = 4;
+      ticks = 6;
+      carry = 1;
+      contacts = session;
+      rows =
+          is (connected 1 7) (asked No)
+          ∷ is (connected 0 7) (asked (AskRefused TickOutOfRange))
+          ∷ is (reached 0 1 7 (90 ∷ 91 ∷ 92 ∷ 93 ∷ 94 ∷ 95 ∷ 96 ∷ 97 ∷ 98 ∷ [])) (set Found 2 (10 ∷ 0 ∷ 0 ∷ 0 ∷ 0 ∷ 0 ∷ 0 ∷ 0 ∷ 98 ∷ []))
+          ∷ is (reached 0 1 4 (90 ∷ 91 ∷ [])) (set Found 1 (2 ∷ 0 ∷ []))
+          ∷ is (reached 3 1 7 (90 ∷ [])) (set Found 0 (0 ∷ []))
+          ∷ is (reached 4 1 7 (90 ∷ 91 ∷ [])) (set (SetRefused NoSuchAnimal) 0 (90 ∷ 91 ∷ []))
+          ∷ is (claimed 0 3 1 7 (contactWord (contact 0 1 2) ∷ contactWord (contact 1 3 4) ∷ [])) (asked Yes)
+          ∷ is (claimed 0 3 1 7 (contactWord (contact 0 1 1) ∷ contactWord (contact 1 3 4) ∷ [])) (asked Yes)
+          ∷ is (claimed 0 3 2 7 (contactWord (contact 0 1 1) ∷ contactWord (contact 1 3 4) ∷ [])) (asked No)
+          ∷ is (claimed 0 3 1 4 (contactWord (contact 0 1 2) ∷ contactWord (contact 1 3 4) ∷ [])) (asked No)
+          ∷ is (claimed 0 3 1 7 (contactWord (contact 0 1 3) ∷ contactWord (contact 1 3 4) ∷ [])) (asked No)
+          ∷ is (claimed 0 3 1 7 (contactWord (contact 1 3 4) ∷ contactWord (contact 0 1 2) ∷ [])) (asked No)
+          ∷ is (claimed 0 3 1 7 []) (asked No)
+          ∷ is (claimed 0 0 1 7 []) (asked (AskRefused SameAnimal))
+          ∷ is (reach 0 3 1 7) (asked Yes)
+          ∷ is (reach 0 3 1 8) (asked (AskRefused TickOutOfRange))
+          ∷ is (reach 0 3 5 2) (asked (AskRefused TickOutOfRange))
+          ∷ is (earliest 0 3 8) (ticked (TickRefused TickOutOfRange))
+          ∷ is (latest 0 4 5) (ticked (TickRefused NoSuchAnimal))
+          ∷ is (chain 0 3 3 7 (91 ∷ 92 ∷ 93 ∷ [])) (chained NoJourney (91 ∷ 92 ∷ 93 ∷ []))
+          ∷ is (chain 0 3 1 7 (91 ∷ 92 ∷ [])) (chained (ChainRefused ChainBufferTooShort) (91 ∷ 92 ∷ []))
+          ∷ is (add 0 1 6) (added (New 1))
+          ∷ is (add 0 1 7) (added (AddRefused TickOutOfRange))
+          ∷ is (add 0 1 1) (added (Known 0))
+          ∷ [];
+    }
+    ∷ record {
+      animals = 2;
+      ticks = 2;
+      carry = 1;
+      contacts = contact 0 1 1 ∷ contact 1 0 2 ∷ [];
+      rows = is (connected 1 3) (asked Yes) ∷ is (connected 1 2) (asked No) ∷ [];
+    }
+    ∷ record {
+      animals = 1;
+      ticks = 2;
+      carry = 1;
+      contacts = [];
+      rows =
+          is (connected 1 3) (asked Yes)
+          ∷ is (reached 0 1 3 []) (set Found 0 [])
+          ∷ is (reach 0 0 1 3) (asked (AskRefused SameAnimal))
+          ∷ is (reach 0 1 1 3) (asked (AskRefused NoSuchAnimal))
+          ∷ is (add 1 1 1) (added (AddRefused NoSuchAnimal))
+          ∷ [];
+    }
+    ∷ []
+
+abbrev pub Worked : Type 0
+Worked = AllHold worked
