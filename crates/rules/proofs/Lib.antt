@@ -16,6 +16,7 @@ pub mod Held
 pub mod Runs
 pub mod Demand3
 pub mod LogsRead
+pub mod SheetRule
 pub mod Determined
 pub mod Rejected
 pub mod Distinct

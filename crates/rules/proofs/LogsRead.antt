@@ -43,7 +43,7 @@ module _ {n τ δ : ℕ} {l : List Contact} {L : List ℕ} (g : IsLog n τ δ l 
   log-answer = rw (log-accepted, log-contacts g)
 
   -- It leaves the fresh table over the log's contacts.
-  log-fresh : Fresh n τ δ (In l) (readLeaves L T)
+  pub log-fresh : Fresh n τ δ (In l) (readLeaves L T)
   unfolding readLeaves
   log-fresh =
       rw (log-accepted, log-animals g, log-ticks g, log-carry g, log-contacts g)
@@ -125,10 +125,10 @@ equal-tables : (n τ δ : ℕ) (l m : List Contact) (K L T U : List ℕ) → IsL
 equal-tables n τ δ l m K L T U g h p q = fresh-equal (log-fresh g T p) (log-fresh h U q)
 
 -- The words of the table that the printing program reads a log into.
-abbrev zeros : ℕ → ℕ → List ℕ
+abbrev pub zeros : ℕ → ℕ → List ℕ
 zeros n τ = replicate {A = ℕ} (tableLength n τ) 0
 
-zeros-length : (n τ : ℕ) → length (zeros n τ) ≡ tableLength n τ
+pub zeros-length : (n τ : ℕ) → length (zeros n τ) ≡ tableLength n τ
 zeros-length n τ = length-replicate {A = ℕ} (tableLength n τ) 0
 
 module _ {n τ δ : ℕ} {l : List Contact} {L : List ℕ} (g : IsLog n τ δ l L) where
@@ -138,7 +138,7 @@ module _ {n τ δ : ℕ} {l : List Contact} {L : List ℕ} (g : IsLog n τ δ l 
   log-beyond = rw (log-first g)
 
   -- For a log the table is printed.
-  log-text : logText L ≡ tableText (readLeaves L (zeros n τ))
+  pub log-text : logText L ≡ tableText (readLeaves L (zeros n τ))
   unfolding logText
   log-text = rw (log-animals g, log-ticks g, log-answer g (zeros n τ) (zeros-length n τ))
 

@@ -23,6 +23,7 @@ pub mod Demand2
 pub mod Demand3
 pub mod NamedChains
 pub mod LogsRead
+pub mod SheetRule
 pub mod CountedCalls
 pub mod ListRule
 pub mod Determined
