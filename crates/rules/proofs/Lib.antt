@@ -32,3 +32,4 @@ pub mod Claims
 pub mod Session
 pub mod LogExamples
 pub mod ListRule
+pub mod Promised

@@ -32,3 +32,4 @@ pub mod WrongAnswers
 pub mod Examples
 pub mod LogExamples
 pub mod Session
+pub mod Promised
