@@ -1,12 +1,17 @@
 // The replies of the C interface: for each type of answer, which answer it is in the upper 32 bits and its number in the lower 32.
 ghost use mathlib.Core.Path.{_≡_};
-ghost use Rattle.rules.specs.Answers.{reply, numberOf, openReply, addReply, writeReply, readReply, askReply, chainReply};
+ghost use Prim.Native.Nat.{_<_, _^_};
+ghost use Rattle.rules.specs.Answers.{reply, numberOf, openReply, addReply, writeReply, readReply, askReply, tickReply, setReply, chainReply, listReply, recordReply};
 use rules::AddAnswer;
 use rules::AskAnswer;
 use rules::ChainAnswer;
+use rules::ListAnswer;
 use rules::OpenAnswer;
 use rules::ReadAnswer;
+use rules::RecordAnswer;
 use rules::Refusal;
+use rules::SetAnswer;
+use rules::TickAnswer;
 use rules::WriteAnswer;
 
 // A reply: which answer, and its number.
@@ -75,6 +80,27 @@ pub fn of_ask(answer: AskAnswer) -> u64
     }
 }
 
+// Of a question for a tick: 1 found, with the tick, 2 none.
+pub fn of_tick(answer: TickAnswer) -> u64
+    ensures { λ r. ⌜ r ≡ tickReply answer ⌝ }
+{
+    match answer {
+        TickAnswer::At(tick) => reply_of(1, tick),
+        TickAnswer::Nothing => reply_of(2, 0),
+        TickAnswer::Refused(r) => refused(r),
+    }
+}
+
+// Of the animals reached: 1 a set, with the number of its animals.
+pub fn of_set(answer: SetAnswer, count: u32) -> u64
+    ensures { λ r. ⌜ r ≡ setReply answer count ⌝ }
+{
+    match answer {
+        SetAnswer::Found => reply_of(1, count),
+        SetAnswer::Refused(r) => refused(r),
+    }
+}
+
 // Of a chain: 1 a chain, with the number of its contacts, 2 no journey.
 pub fn of_chain(answer: ChainAnswer) -> u64
     ensures { λ r. ⌜ r ≡ chainReply answer ⌝ }
@@ -83,5 +109,29 @@ pub fn of_chain(answer: ChainAnswer) -> u64
         ChainAnswer::Chain(contacts) => reply_of(1, contacts),
         ChainAnswer::NoJourney => reply_of(2, 0),
         ChainAnswer::Refused(r) => refused(r),
+    }
+}
+
+// Of a list of question records: 1 answered, with the number of records. Since that number is a length, which may be too
+// high for a reply of 64 bits, the reply is required to fit.
+pub fn of_list(answer: ListAnswer) -> u64
+    requires { ⌜ listReply answer < 2 ^ 64 ⌝ }
+    ensures { λ r. ⌜ r ≡ listReply answer ⌝ }
+{
+    match answer {
+        ListAnswer::Answered(records) => 0x1_0000_0000 + records as u64,
+        ListAnswer::Refused(r) => refused(r),
+    }
+}
+
+// Of a question record: 1 yes, 2 no, 3 unasked; a refusal is held by its number.
+pub fn of_record(answer: RecordAnswer) -> u64
+    ensures { λ r. ⌜ r ≡ recordReply answer ⌝ }
+{
+    match answer {
+        RecordAnswer::Unasked => reply_of(3, 0),
+        RecordAnswer::Yes => reply_of(1, 0),
+        RecordAnswer::No => reply_of(2, 0),
+        RecordAnswer::Refused(number) => reply_of(0, number),
     }
 }
