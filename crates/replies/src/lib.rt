@@ -1,12 +1,15 @@
-// The replies of the C interface: for each type of answer, which answer it is in the upper 32 bits and its number in the lower 32.
+// The replies of the C interface: for each type of answer, which answer it is in the upper 32 bits and its number in the
+// lower 32. The words of a set are written where the caller lends room for them.
 ghost use mathlib.Core.Path.{_≡_};
 ghost use Prim.Native.Nat.{_<_, _^_};
 ghost use Rattle.rules.specs.Answers.{reply, numberOf, openReply, addReply, writeReply, readReply, askReply, tickReply, setReply, chainReply, listReply, recordReply};
+ghost use Rattle.replies.specs.Sets.{setOver, setLeaves};
 use rules::AddAnswer;
 use rules::AskAnswer;
 use rules::ChainAnswer;
 use rules::ListAnswer;
 use rules::OpenAnswer;
+use rules::ReachedAnswer;
 use rules::ReadAnswer;
 use rules::RecordAnswer;
 use rules::Refusal;
@@ -133,5 +136,30 @@ pub fn of_record(answer: RecordAnswer) -> u64
         RecordAnswer::Yes => reply_of(1, 0),
         RecordAnswer::No => reply_of(2, 0),
         RecordAnswer::Refused(number) => reply_of(0, number),
+    }
+}
+
+// Writes the eight words of a set to the front of the lent words, as many as there is room for.
+fn put_words(words: [u32; 8], set: &mut [u32])
+    ensures { λ _. ⌜ now (set .exit) ≡ setOver words (now (set .entry)) ⌝ }
+{
+    let mut i = 0;
+    while i < 8 && i < set.len() {
+        set[i] = words[i];
+        i += 1;
+    }
+}
+
+// Writes a set that was found to the front of the lent words; on a refusal these keep theirs.
+pub fn put_set(found: ReachedAnswer, set: &mut [u32])
+    ensures { λ _. ⌜ now (set .exit) ≡ setLeaves (found .answer) (found .set .words) (now (set .entry)) ⌝ }
+{
+    let answer = found.answer;
+    match answer {
+        SetAnswer::Found => {
+            let words = found.set.words;
+            put_words(words, set);
+        }
+        SetAnswer::Refused(_) => {}
     }
 }
