@@ -2,13 +2,14 @@
 // 32 bits say which answer, the lower 32 its number: 0 is a refusal with its number; 1 and 2 are the answers of the call.
 ghost use mathlib.Core.Path.{_≡_};
 ghost use Rattle.journeys.specs.Journey.{contact};
-ghost use Rattle.rules.specs.Answers.{openReply, addReply, writeReply, readReply, askReply, chainReply};
+ghost use Rattle.rules.specs.Answers.{openReply, addReply, writeReply, readReply, askReply, tickReply, setReply, chainReply};
 ghost use Rattle.rules.specs.Opening.{openAnswer, openLeaves};
 ghost use Rattle.rules.specs.Adding.{addAnswer, addLeaves};
 ghost use Rattle.rules.specs.Logs.{writeAnswer, writeLeaves};
 ghost use Rattle.rules.specs.Reading.{readAnswer, readLeaves};
-ghost use Rattle.rules.specs.Questions.{reachAnswer};
+ghost use Rattle.rules.specs.Questions.{reachAnswer, earliestAnswer, latestAnswer, connectedAnswer, reachedAnswer, reachedCount, reachedLeaves};
 ghost use Rattle.rules.specs.Chains.{chainAnswer, chainLeaves};
+ghost use Rattle.rules.specs.Claims.{claimedAnswer};
 
 // Opens a table: 1 opened, 0 refused.
 #[no_mangle]
@@ -68,4 +69,56 @@ pub extern "C" fn herd_chain(
     ensures { λ _. ⌜ now (buffer .exit) ≡ chainLeaves (now (table .entry)) u v first last (now (buffer .entry)) ⌝ }
 {
     replies::of_chain(chains::chain(table, u, v, first, last, buffer))
+}
+
+// Asks for the earliest arrival from u at v of a journey that departs at or after `first`: 1 found, with the tick, 2 none,
+// 0 refused.
+#[no_mangle]
+pub extern "C" fn herd_earliest(table: &[u32], u: u32, v: u32, first: u32) -> u64
+    ensures { λ r. ⌜ r ≡ tickReply (earliestAnswer (now (table .entry)) u v first) ⌝ }
+{
+    replies::of_tick(questions::earliest(table, u, v, first))
+}
+
+// Asks for the latest departure from u of a journey that arrives at v by `last`: 1 found, with the tick, 2 none, 0 refused.
+#[no_mangle]
+pub extern "C" fn herd_latest(table: &[u32], u: u32, v: u32, last: u32) -> u64
+    ensures { λ r. ⌜ r ≡ tickReply (latestAnswer (now (table .entry)) u v last) ⌝ }
+{
+    replies::of_tick(questions::latest(table, u, v, last))
+}
+
+// Asks whether every animal can have been reached from every other in a window: 1 yes, 2 no, 0 refused.
+#[no_mangle]
+pub extern "C" fn herd_connected(table: &[u32], first: u32, last: u32) -> u64
+    ensures { λ r. ⌜ r ≡ askReply (connectedAnswer (now (table .entry)) first last) ⌝ }
+{
+    replies::of_ask(questions::connected(table, first, last))
+}
+
+// Writes the set of the animals reached from u in a window: 1 a set, with the number of its animals, 0 refused.
+#[no_mangle]
+pub extern "C" fn herd_reached(table: &[u32], u: u32, first: u32, last: u32, set: &mut [u32]) -> u64
+    ensures { λ r. ⌜ r ≡ setReply (reachedAnswer (now (table .entry)) u first last) (reachedCount (now (table .entry)) u first last) ⌝ }
+    ensures { λ _. ⌜ now (set .exit) ≡ reachedLeaves (now (table .entry)) u first last (now (set .entry)) ⌝ }
+{
+    let found = questions::reached(table, u, first, last);
+    replies::put_set(found, set);
+    let answer = found.answer;
+    replies::of_set(answer, found.set.count)
+}
+
+// Asks whether words are a journey of held contacts from u to v that fits a window: 1 yes, 2 no, 0 refused.
+#[no_mangle]
+pub extern "C" fn herd_claimed(
+    table: &[u32],
+    u: u32,
+    v: u32,
+    first: u32,
+    last: u32,
+    chain: &[u32],
+) -> u64
+    ensures { λ r. ⌜ r ≡ askReply (claimedAnswer (now (table .entry)) u v first last (now (chain .entry))) ⌝ }
+{
+    replies::of_ask(claims::claimed(table, u, v, first, last, chain))
 }
