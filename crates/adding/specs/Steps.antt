@@ -21,7 +21,7 @@ use Rattle.cells.specs.Stored.{orZero}
 abbrev pub tickBy : (Cell → ℕ → Option ℕ) → ℕ → ℕ → ℕ → List ℕ → ℕ
 tickBy look own t x xs = orZero (cond (eqb x own) (some t) (look (cellOf xs) t))
 
--- The departure of x: t for u itself, for another the latest in cell (x, u) with arrival at most t.
+-- The departure of x: t for u itself, for another the latest that cell (x, u) has with an arrival by t.
 unfoldable pub departing : ℕ → ℕ → List ℕ → ℕ → ℕ → ℕ → ℕ
 departing n s body u t x = tickBy latestDeparture u t x (cellIn n s body x u)
 

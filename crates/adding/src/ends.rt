@@ -6,7 +6,7 @@ ghost use Rattle.cells.specs.Stored.{Stored};
 ghost use Rattle.adding.specs.Steps.{departing, arriving, Listed};
 use tables::Opening;
 
-// The departure of x: t for u itself, for another the latest in cell (x, u) with arrival at most t, 0 for none.
+// The departure of x: t for u itself, for another the latest that cell (x, u) has with an arrival by t, 0 for none.
 fn departure(body: &[u32], n: usize, size: usize, x: usize, u: usize, t: u32) -> u32
     requires { ⌜ Grid Stored n size (now body) ⌝ }
     requires { ⌜ (x < n) × (u < n) ⌝ }

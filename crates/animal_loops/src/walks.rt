@@ -32,7 +32,7 @@ fn joins_all(table: &[u32], n: u32, u: u32, first: u32, last: u32) -> bool
     true
 }
 
-// Whether every ordered pair of different animals is reached in the window.
+// Whether each animal reaches each other one in the window.
 pub fn connects(table: &[u32], first: u32, last: u32) -> bool
     requires { ⌜ ValidTable (now table) ⌝ }
     ensures { λ r. ⌜ r ≡ connects (now (table .entry)) first last ⌝ }

@@ -6,7 +6,7 @@ ghost use Rattle.adding.specs.Steps.{departing};
 ghost use Rattle.building.specs.Stage.{InUseCell, PartlyAdded, AddsForAnimals};
 use crate::cell;
 
-// The departure of x: t for u itself, for another the latest in cell (x, u) with arrival at most t, 0 for none.
+// The departure of x: t for u itself, for another the latest that cell (x, u) has with an arrival by t, 0 for none.
 fn departure(body: &[u32], n: usize, size: usize, x: usize, u: usize, t: u32) -> u32
     requires { ⌜ InUseCell n size (now body) x u ⌝ }
     ensures { λ r. ⌜ r ≡ departing n size (now (body .entry)) u t x ⌝ }

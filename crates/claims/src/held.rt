@@ -19,7 +19,7 @@ fn holds(table: &[u32], u: u32, v: u32, t: u32) -> bool
     pair_cells::stands(table, u, v, t, a)
 }
 
-// Whether the word is a contact word whose contact the table holds.
+// Whether the word is that of a contact held by the table.
 fn held_word(table: &[u32], w: u32) -> bool
     requires { ⌜ ValidTable (now table) ⌝ }
     ensures { λ r. ⌜ r ≡ heldWord (now (table .entry)) w ⌝ }

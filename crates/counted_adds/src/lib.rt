@@ -1,4 +1,4 @@
-// Counted adding: the tally is lent by the caller and changed by the call, over a covered add on a tally by value.
+// Counted adding: a thin function on a tally that the caller lends, over one that takes the tally by value.
 ghost use mathlib.Core.Path.{_≡_};
 ghost use mathlib.Core.Bool.{true};
 ghost use Rattle.journeys.specs.Journey.{contact};

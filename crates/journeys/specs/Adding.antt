@@ -13,11 +13,11 @@ use Rattle.journeys.specs.Cell.{Cell, Rising, WellFormedCell, latestDepa
 abbrev pub Cells : Type 0
 Cells = ℕ → ℕ → Cell
 
--- d(x): d(u) = t; for another x, the latest departure in cell (x, u) with arrival at most t, if any.
+-- d(x): t for u itself; for another animal the latest departure from it that has reached u by t, where there is one.
 unfoldable pub departureOf : Cells → Contact → ℕ → Option ℕ
 departureOf T k x = cond (eqb x (k .from)) (some (k .tick)) (latestDeparture (T x (k .from)) (k .tick))
 
--- e(y): e(v) = t + δ; for another y, the earliest arrival in cell (v, y) with departure at least t + δ, if any.
+-- e(y): t + δ for v itself; for another animal the earliest arrival at it that leaves v at t + δ or later, where there is one.
 unfoldable pub arrivalOf : ℕ → Cells → Contact → ℕ → Option ℕ
 arrivalOf δ T k y = cond (eqb y (k .to)) (some (k .tick + δ)) (earliestArrival (T (k .to) y) (k .tick + δ))
 

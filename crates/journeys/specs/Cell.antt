@@ -71,7 +71,7 @@ unfoldable pub putInOrder : Interval → Cell → Cell
 putInOrder i [] = i ∷ []
 putInOrder i (j ∷ c) = cond (ltb (i .departure) (j .departure)) (i ∷ j ∷ c) (j ∷ putInOrder i c)
 
--- i enters the cell: if an interval inside or equal to it stands there, nothing changes; else those that contain it
--- go and it is put in order.
+-- i enters the cell: the cell stays where it has an interval inside i or i itself; otherwise the intervals around i leave, and i takes its
+-- place in the order.
 unfoldable pub enter : Interval → Cell → Cell
 enter i c = cond (hasInside i c) c (putInOrder i (withoutContaining i c))

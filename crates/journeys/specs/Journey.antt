@@ -4,7 +4,7 @@ use mathlib.Core.Logic.{_↔_, _⊎_, _≢_}
 use mathlib.Core.List.{List, List·Memᴰ}
 use Prim.Native.Nat.{ℕ, _+_, _≤_, _<_}
 
--- A contact (u, v, t): it leaves u at t and arrives at v at t + δ, where δ is the carry time.
+-- A contact (u, v, t): what it carries departs from u at t and is with v from t + δ on, δ being the carry time.
 pub record Contact : Type 0 where
   pub from : ℕ
   pub to : ℕ
@@ -45,8 +45,8 @@ interval a b = record { departure = a; arrival = b }
 abbrev pub Inside : Interval → Interval → Type 0
 Inside j i = (i .departure ≤ j .departure) × (j .arrival ≤ i .arrival)
 
--- A journey that arrives at y at b, from x with departure a: one contact or more, each starting where the last
--- arrived, at or after that arrival. An animal may come twice. The positions are: the contacts, the carry time, the animal y where it ends
+-- A journey that arrives at y at b, from x with departure a: a row of contacts, at least one, each departing from the animal that the one
+-- before it reached, no earlier than it got there. An animal may come twice. The positions are: the contacts, the carry time, the animal y where it ends
 -- and its arrival b there, then the animal x where it begins and its departure a.
 pub data JourneyTo (S : Contacts) (δ y b : ℕ) : ℕ → ℕ → Type 0 where
   single : {x a : ℕ} → S (contact x y a) → a + δ ≡ b → JourneyTo S δ y b x a
@@ -56,7 +56,7 @@ pub data JourneyTo (S : Contacts) (δ y b : ℕ) : ℕ → ℕ → Type 0 where
 abbrev pub Journey : Contacts → ℕ → ℕ → ℕ → Interval → Type 0
 Journey S δ x y i = JourneyTo S δ y (i .arrival) x (i .departure)
 
--- A journey interval is minimal for its pair when no other journey interval of that pair lies inside it.
+-- The interval is minimal for the pair: it is that of a journey, and a journey's interval inside it is the same.
 pub record Minimal (S : Contacts) (δ x y : ℕ) (i : Interval) : Type 0 where
   pub journey : Journey S δ x y i
   pub least : (j : Interval) → Journey S δ x y j → Inside j i → j ≡ i

@@ -73,7 +73,7 @@ pub fn latest(table: &[u32], u: u32, v: u32, last: u32) -> TickAnswer
     }
 }
 
-// Whether every ordered pair of different animals is reached in the window. Refuses with 5, 6, 9.
+// Whether each animal reaches each other one in the window. Refuses with 5, 6, 9.
 pub fn connected(table: &[u32], first: u32, last: u32) -> AskAnswer
     ensures { λ r. ⌜ r ≡ connectedAnswer (now (table .entry)) first last ⌝ }
 {

@@ -198,8 +198,7 @@ start-standing {T = T} f = record { fresh = f; number = let h = once-short (held
 counted-larger : (n τ δ : ℕ) (S : Contacts) (T : List ℕ) → Fresh n τ δ S T → (t : Tally) (k : Contact) → Accepted (countedAnswer t T k) → Fresh n τ δ (With S k) (countedLeaves t T k)
 counted-larger n τ δ S T f t k = counted-cases t T k (λ b a L u. Accepted a → Fresh n τ δ (With S k) L) (λ h a. absurd a) (λ h a. add-fresh f k (fresh-accepted f k .0 a))
 
--- From a zero tally and a fresh table, new is the number of different contacts accepted, and the three numbers sum to the
--- number of calls counted.
+-- What the tally of a run from zero says.
 counted-calls : (n τ δ : ℕ) (T : List ℕ) → Fresh n τ δ (λ k. ⊥) T → (A : List Contact) → CountedCalls n τ δ T A
 counted-calls n τ δ T f A =
     record {

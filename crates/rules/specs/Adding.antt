@@ -17,7 +17,7 @@ use Rattle.rules.specs.Folds.{sumBelow, countBelow, within}
 use Rattle.rules.specs.Layout.{tableWords, animals, ticks, carry, cellsOf}
 use Rattle.rules.specs.Checks.{ensureTable}
 
--- A contact call is legal when u and v are below n and differ and t is 1 to τ.
+-- The contact is legal for n animals and τ ticks: two different animals of them, and one of the ticks from 1.
 pub record Legal (n τ : ℕ) (k : Contact) : Type 0 where
   pub from-below : k .from < n
   pub to-below : k .to < n
@@ -60,7 +60,7 @@ addRefusal T k = ensureTable T (ensurePair T (k .from) (k .to) (ensureTick T (k 
 unfoldable pub addedCells : List ℕ → Contact → Cells
 addedCells T k = add (carry T) (cellsOf T) k
 
--- The table holds the contact (u, v, t) when [t, t+δ] stands in cell (u, v).
+-- The table holds the contact: its own interval stands in the cell of its animals.
 unfoldable pub holds : List ℕ → Contact → Bool
 holds T k = stands (interval (k .tick) (k .tick + carry T)) (cellsOf T (k .from) (k .to))
 

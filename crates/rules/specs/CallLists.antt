@@ -32,7 +32,7 @@ engine =
       write-leaves = writeLeaves;
     }
 
--- A list of calls run on a table: each call takes the table as the last one left it.
+-- A list of calls run on a table, each on the words that the one before it left.
 unfoldable pub run : Engine → List ℕ → List Contact → List ℕ
 run E T [] = T
 run E T (k ∷ A) = run E (E .add-leaves T k) A

@@ -34,9 +34,8 @@ abbrev pub leadFrom : Option ℕ → Lead
 leadFrom none = nowhere
 leadFrom (some d) = leadsOn d
 
--- Where the contact (x, z, d) leads, if the table holds it: the arrival b can still be had from z when its cell to the
--- goal has an interval with that arrival, departing at or after this contact's arrival; the goal itself counts when this
--- contact's arrival is b. The positions are: the table, the goal, the arrival b, the animal x and its departure d, the animal z.
+-- Where the contact (x, z, d) leads, if the table holds it: there, when z is the goal and the contact arrives at b; on, when cell (z, goal)
+-- has an interval that arrives at b and does not depart before the contact arrives; else nowhere. The positions are: the table, the goal, the arrival b, the animal x and its departure d, the animal z.
 unfoldable pub leads : List ℕ → ℕ → ℕ → ℕ → ℕ → ℕ → Lead
 leads T goal b x d z =
     cond (holds T (contact x z d))

@@ -19,7 +19,7 @@ use Rattle.rules.specs.Questions.{reachRefusal}
 use Rattle.rules.specs.Fresh.{Fresh}
 use Rattle.rules.specs.Windows.{fitsWindow, Fits, IsWindow, IsPair}
 
--- The word is a contact word whose contact the table holds; one with an animal n or above is a contact that it does not hold.
+-- The word is that of a contact held by the table, which has none with an animal n or above.
 unfoldable pub heldWord : List ℕ → ℕ → Bool
 heldWord T w = isOf contactLayout w && ltb (contactOf w .from) (animals T) && ltb (contactOf w .to) (animals T) && holds T (contactOf w)
 
@@ -48,8 +48,7 @@ intervalFormed T ws = interval (contactOf (getD ws 0 0) .tick) (contactOf (lastW
 unfoldable pub spells : List ℕ → ℕ → ℕ → ℕ → ℕ → List ℕ → Bool
 spells T u v first last ws = formJourney T v u 0 ws && fitsWindow (intervalFormed T ws) first last
 
--- Yes when the list is not empty, each word is a contact word whose contact the table holds, and they form a fitting
--- journey from u to v; else no.
+-- Yes when the words, of which there must be one, spell a journey of contacts held from u to v that fits the window.
 unfoldable pub claimedAnswer : List ℕ → ℕ → ℕ → ℕ → ℕ → List ℕ → AskAnswer
 claimedAnswer T u v first last ws = askAnswerOf (reachRefusal T u v first last) (spells T u v first last ws)
 

@@ -42,15 +42,15 @@ pub record AcceptedCall (s : TallyAndTable) (A : List Contact) (k : Contact) : T
 abbrev pub zeroTally : List ℕ → TallyAndTable
 zeroTally T = record { tally = record { new = 0; known = 0; refused = 0 }; table = T }
 
--- "From a zero tally and a fresh table, after counted adds only": T is fresh over no contacts, A is any list of calls.
+-- What the numbers of a tally say after the list A of counted calls, begun with zeros on a table T without contacts.
 module _ (n τ δ : ℕ) (T : List ℕ) (A : List Contact) where
   pub record CountedCalls : Type 0 where
-    -- "new is the number of different contacts accepted": those contacts, each once
+    -- New counts the contacts that were accepted, each once.
     pub different : List Contact
     pub once : Sorted Earlier different
     pub those : (k : Contact) → List·Memᴰ k different ↔ AcceptedCall (zeroTally T) A k
     pub new-is : runCounted (zeroTally T) A .tally .new ≡ length different
-    -- "and the three sum to the number of calls (those refused with 16 left out)"
+    -- The sum counts the calls, but for those refused with 16.
     pub sum-is : tallySum (runCounted (zeroTally T) A .tally) ≡ length (counted (zeroTally T) A)
     -- No call is refused with 16 while there are 4,294,967,295 or fewer.
     pub all-counted : length A ≤ fullTally → counted (zeroTally T) A ≡ A

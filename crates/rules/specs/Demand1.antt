@@ -28,8 +28,9 @@ use Rattle.rules.specs.Chains.{chainAnswer, chainLeaves}
 use Rattle.rules.specs.Counting.{fullTally, countedAnswer, countedLeaves, countedTally}
 use Rattle.rules.specs.QuestionList.{listAnswer, listLeaves}
 
--- Demand 1. That the memory lent is read and written only inside its ends, and that every call stops with an answer,
--- is what the proof of each function says; here stands what it says of the words.
+-- Demand 1. Its first sentence, "The memory lent to a call, table, list, log and buffer, is read and written only inside its ends, and every
+-- call on any contents stops with an answer or a numbered refusal", is what the check of each function shows; here stands what the demand
+-- says of the words.
 pub record Demand1 : Type 0 where
   -- "A refusal changes no lent word."
   pub open-refused : (n τ δ : ℕ) (T : List ℕ) (r : Refusal) → openAnswer n τ δ T ≡ OpenRefused r → openLeaves n τ δ T ≡ T

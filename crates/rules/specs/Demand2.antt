@@ -102,7 +102,7 @@ module _ (Q : Questions) (n τ δ : ℕ) (S : Contacts) (T : List ℕ) where
     pub latest-at : (u v last : ℕ) → IsPair n u v → 1 ≤ last → last ≤ τ + δ → (d : ℕ) → (Q .latest T u v last ≡ At d) ↔ Latest S δ u v last d
     pub latest-none : (u v last : ℕ) → IsPair n u v → 1 ≤ last → last ≤ τ + δ
         → (Q .latest T u v last ≡ Nothing) ↔ ((i : Interval) → Journey S δ u v i → ¬ (i .arrival ≤ last))
-    -- Connected: every ordered pair of different animals is reached in the window.
+    -- Connected: yes exactly when each animal reaches each other one in the window.
     pub connected-yes : (first last : ℕ) → IsWindow τ δ first last → (Q .connected T first last ≡ Yes) ↔ AllFit S δ n first last
     pub connected-no : (first last : ℕ) → IsWindow τ δ first last → (Q .connected T first last ≡ No) ↔ (¬ AllFit S δ n first last)
     -- Reached from u: the bits of the set record, and its count.

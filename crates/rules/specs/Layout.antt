@@ -12,11 +12,12 @@ use Rattle.rules.specs.Folds.{flat}
 abbrev pub tableLength : ℕ → ℕ → ℕ
 tableLength n τ = 1 + n * n * (τ + 1)
 
--- A cell is a count word and τ rows: its intervals first, then unused words.
+-- The words of a cell: how many rows are in use, these rows, and unused words up to τ rows.
 unfoldable pub cellWords : ℕ → Cell → List ℕ
 cellWords τ c = countWord (length c) ∷ (map intervalWord c ++ replicate (τ - length c) unusedWord)
 
--- The table is one opening word, then a cell for each ordered pair (u, v), u first in order, then v.
+-- The words of a table: the opening word, then the cells, in the order of the animals that they are from and among these of those that they
+-- lead to.
 unfoldable pub tableWords : ℕ → ℕ → ℕ → Cells → List ℕ
 tableWords n τ δ T = openingWord n τ δ ∷ flat (λ u. flat (λ v. cellWords τ (T u v)) n) n
 

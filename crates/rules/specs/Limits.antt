@@ -18,7 +18,7 @@ maxCarry = 256
 abbrev pub maxArrival : ℕ
 maxArrival = maxTicks + maxCarry
 
--- A cell is a count word and τ rows.
+-- The words of a cell: its count word, and a row for each tick.
 abbrev pub maxCellWords : ℕ
 maxCellWords = maxTicks + 1
 

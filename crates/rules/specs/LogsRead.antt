@@ -18,8 +18,8 @@ use Rattle.rules.specs.Orders.{Sorted, Earlier}
 use Rattle.rules.specs.Reading.{readAnswer, readLeaves}
 use Rattle.rules.specs.Sheet.{mostBytes, wordsOf, sheetText}
 
--- L is a log of the legal contacts l: an opening word, contact words in any order with repeats allowed, and an end word
--- with their number, which fits its field.
+-- L is a log of the legal contacts l, which may come in any order and more than once: an opening word, their words, and an end word with
+-- their number, which fits its field.
 pub record IsLog (n τ δ : ℕ) (l : List Contact) (L : List ℕ) : Type 0 where
   pub sizes : Sizes n τ δ
   pub legal : (k : Contact) → List·Memᴰ k l → Legal n τ k
@@ -31,7 +31,7 @@ pub record LogsRead : Type 1 where
   pub read-exactly : (L T : List ℕ) → ((k : ℕ) × (readAnswer L T ≡ Read k)) ↔ ((n : ℕ) × (τ : ℕ) × (δ : ℕ) × (l : List Contact) × IsLog n τ δ l L × (length T ≡ tableLength n τ))
   -- The table is fresh over the log's contacts, so that demand 2 holds of it.
   pub read-fresh : (n τ δ : ℕ) (l : List Contact) (L T : List ℕ) → IsLog n τ δ l L → length T ≡ tableLength n τ → Fresh n τ δ (In l) (readLeaves L T)
-  -- "It answers how many different contacts these are": those contacts, each once.
+  -- The number answered counts the log's contacts, each once.
   pub read-number : (n τ δ : ℕ) (l : List Contact) (L T : List ℕ) → IsLog n τ δ l L → length T ≡ tableLength n τ
       → (m : List Contact) × Sorted Earlier m × ((k : Contact) → List·Memᴰ k m ↔ List·Memᴰ k l) × (readAnswer L T ≡ Read (length m))
   -- Reading the words that were written from a fresh table gives that table, word for word, and its number of contacts.
@@ -41,7 +41,6 @@ pub record LogsRead : Type 1 where
   -- with whatever repeats.
   pub read-equal : (n τ δ : ℕ) (l m : List Contact) (K L T U : List ℕ) → IsLog n τ δ l K → IsLog n τ δ m L → length T ≡ tableLength n τ → length U ≡ tableLength n τ
       → (readLeaves K T ≡ readLeaves L U) ↔ Same (In l) (In m)
-  -- "Two offices that load the same readers must print the same sheet": the two logs as bytes, within what the printing
-  -- program takes.
+  -- Two offices that load the same contacts print the same sheet: the two logs as bytes, within what the printing program takes.
   pub same-sheet : (n τ δ : ℕ) (l m : List Contact) (B C : List ℕ) → IsLog n τ δ l (wordsOf B) → IsLog n τ δ m (wordsOf C) → Same (In l) (In m)
       → length B ≤ mostBytes → length C ≤ mostBytes → length B % 4 ≡ 0 → length C % 4 ≡ 0 → sheetText B ≡ sheetText C

@@ -41,7 +41,7 @@ abbrev pub listAnswerOf : Option Refusal → ℕ → ListAnswer
 listAnswerOf none k = Answered k
 listAnswerOf (some r) k = ListRefused r
 
--- The number of records, 0 for an empty list.
+-- How many records there are.
 unfoldable pub listAnswer : List ℕ → List Question → ListAnswer
 listAnswer T l = listAnswerOf (listRefusal T) (length l)
 

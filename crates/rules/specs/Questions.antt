@@ -37,7 +37,7 @@ reachRefusal T u v first last = ensureTable T (ensurePair T u v (ensureWindow T 
 unfoldable pub reachAnswer : List ℕ → ℕ → ℕ → ℕ → ℕ → AskAnswer
 reachAnswer T u v first last = askAnswerOf (reachRefusal T u v first last) (reaches T u v first last)
 
--- ---- earliest arrival from a first tick, latest departure by a last tick
+-- ---- earliest arrival, latest departure
 
 unfoldable pub momentRefusal : List ℕ → ℕ → ℕ → ℕ → Option Refusal
 momentRefusal T u v t = ensureTable T (ensurePair T u v (ensureMoment T t none))
@@ -50,7 +50,7 @@ latestAnswer T u v last = tickAnswerOf (momentRefusal T u v last) (latestDepartu
 
 -- ---- connected
 
--- Every ordered pair of different animals is reached in the window.
+-- Each animal reaches each other one in the window.
 unfoldable pub connects : List ℕ → ℕ → ℕ → Bool
 connects T first last = allBelow (λ u. allBelow (λ v. eqb u v || reaches T u v first last) (animals T)) (animals T)
 
@@ -66,7 +66,7 @@ connectedAnswer T first last = askAnswerOf (connectedRefusal T first last) (conn
 unfoldable pub isReached : List ℕ → ℕ → ℕ → ℕ → ℕ → Bool
 isReached T u first last i = ltb i (animals T) && not (eqb u i) && reaches T u i first last
 
--- Word j of the set: animal i is bit i mod 32 of word i/32.
+-- Word j of the set has a bit for each of the animals from 32 · j on.
 unfoldable pub setWord : List ℕ → ℕ → ℕ → ℕ → ℕ → ℕ
 setWord T u first last j = sumBelow (λ b. cond (isReached T u first last (j * 32 + b)) (2 ^ b) 0) 32
 

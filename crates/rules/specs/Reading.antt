@@ -85,6 +85,6 @@ different (k ∷ l) = cond (comesIn k l) 0 1 + different l
 unfoldable pub readAnswer : List ℕ → List ℕ → ReadAnswer
 readAnswer L T = readAnswerOf (readRefusal L T) (Read (different (loggedContacts L)))
 
--- The table's words afterwards: reading checks the whole log, then opens the table and adds all.
+-- The table's words afterwards: those of the log's opening with its contacts added, once nothing in the log is refused.
 unfoldable pub readLeaves : List ℕ → List ℕ → List ℕ
 readLeaves L T = unless (readRefusal L T) (tableAfter engine (animals L) (ticks L) (carry L) T (loggedContacts L)) T

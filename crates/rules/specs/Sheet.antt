@@ -39,7 +39,7 @@ mostTableWords = tableLength mostAnimals mostTicks
 
 -- ---- words in files
 
--- In files a word is four bytes, highest first; fewer than four are none.
+-- The words of a file's bytes: each four of them, the highest first, make one.
 unfoldable pub wordsOf : List ℕ → List ℕ
 wordsOf [] = []
 wordsOf (a ∷ []) = []

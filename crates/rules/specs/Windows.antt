@@ -15,7 +15,8 @@ use Rattle.rules.specs.Layout.{ticks, carry}
 
 -- ---- what it is to fit a window
 
--- A journey fits the window from first to last when its interval lies inside this one: it departs at or after first and arrives by last.
+-- A journey fits the window from first to last when its interval lies inside this one: it departs no earlier than first and arrives no later than
+-- last.
 abbrev pub window : ℕ → ℕ → Interval
 window first last = interval first last
 
@@ -55,7 +56,7 @@ ensureWindow T first last o = ensure (windowInRange T first last) TickOutOfRange
 abbrev pub ensureMoment : List ℕ → ℕ → Option Refusal → Option Refusal
 ensureMoment T t o = ensure (within 1 t (lastArrival T)) TickOutOfRange o
 
--- A window is first and last, 1 ≤ first ≤ last ≤ τ+δ.
+-- The two ticks are a window: first comes no later than last, and both are ticks up to the last arrival.
 pub record IsWindow (τ δ first last : ℕ) : Type 0 where
   pub from-one : 1 ≤ first
   pub in-order : first ≤ last

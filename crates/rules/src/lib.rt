@@ -74,7 +74,7 @@ pub enum SetAnswer {
     Refused(Refusal),
 }
 
-// A set record: animal i is bit i mod 32 of word i/32, with the number of animals in it.
+// A set record: a bit for each animal, 32 to a word, and the number of animals in it.
 pub struct AnimalSet {
     pub words: [u32; 8],
     pub count: u32,

@@ -1,4 +1,4 @@
--- A 32-bit word as its kind and fields. The top two bits are the kind; bit 0 is lowest; unnamed bits are zero.
+-- A 32-bit word as its kind, in the top two bits, and its fields; bits outside them are 0. Bits are counted from the lowest, bit 0.
 use mathlib.Core.Bool.{Bool}
 use mathlib.Core.List.{List, [], _∷_, map}
 use Prim.Native.Nat.{ℕ, _+_, _-_, _*_, _/_, _%_, _^_}
