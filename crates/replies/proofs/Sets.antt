@@ -10,8 +10,8 @@ use lib.ListN.{length, getD, take, drop, set, replicate, drop-of-length-le}
 use lib.Seq.{take-all, paste-suc}
 use Rattle.rules.specs.declared.Refusal.{Refusal}
 use Rattle.rules.specs.Answers.{unless}
-use Rattle.rules.specs.Questions.{setWords, reachedRefusal, setAnswerOf, reachedAnswer, reachedWords, reachedLeaves}
-use Rattle.replies.specs.Sets.{setOver, setLeaves}
+use Rattle.rules.specs.Questions.{setWords, reachedRefusal, setAnswerOf, reachedAnswer, reachedWords, setOver, reachedLeaves}
+use Rattle.replies.specs.Sets.{setLeaves}
 
 -- ---- the words written to the front
 

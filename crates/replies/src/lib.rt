@@ -3,7 +3,8 @@
 ghost use mathlib.Core.Path.{_≡_};
 ghost use Prim.Native.Nat.{_<_, _^_};
 ghost use Rattle.rules.specs.Answers.{reply, numberOf, openReply, addReply, writeReply, readReply, askReply, tickReply, setReply, chainReply, listReply, recordReply};
-ghost use Rattle.replies.specs.Sets.{setOver, setLeaves};
+ghost use Rattle.rules.specs.Questions.{setOver};
+ghost use Rattle.replies.specs.Sets.{setLeaves};
 use rules::AddAnswer;
 use rules::AskAnswer;
 use rules::ChainAnswer;

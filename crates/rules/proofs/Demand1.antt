@@ -38,7 +38,7 @@ use Rattle.rules.specs.CallLists.{LegalOf, Accepted}
 use Rattle.rules.specs.Reading.{loggedContacts, readRefusal, different, readAnswer, readLeaves}
 use Rattle.rules.specs.Folds.{countBelow, within}
 use Rattle.rules.specs.Windows.{fitsWindow, windowInRange, inOrder}
-use Rattle.rules.specs.Questions.{setAnswerOf, isReached, setWords, reachedRefusal, reachedAnswer, reachedWords, reachedCount, reachedLeaves}
+use Rattle.rules.specs.Questions.{setAnswerOf, isReached, setWords, reachedRefusal, reachedAnswer, reachedWords, reachedCount, setOver, reachedLeaves}
 use Rattle.rules.specs.Chains.{nowhere, there, leadsOn, leads, Lowest, nobody, animal, lowest, prepend, follow, chainFrom, withTick, chainOf, chainRefusal, chainAnswerOf, chainAnswer, chainWords, chainLeaves}
 use Rattle.rules.specs.Counting.{fullTally, tallySum, countedAnswer, countedLeaves, raised, countedTally}
 use Rattle.rules.specs.QuestionList.{asked, listRefusal, listAnswerOf, listAnswer, listLeaves}
@@ -264,7 +264,7 @@ reached-empty T u first last r = go (reachedRefusal T u first last)
 
 -- By cases: refused and as they were, or the set at the front.
 reached-cases : (T : List ℕ) (u first last : ℕ) (B : List ℕ) (P : Option Refusal → List ℕ → Type 0) → ((r : Refusal) → P (some r) B)
-    → P none (take (length B) (setWords T u first last) ++ drop 8 B) → P (reachedRefusal T u first last) (reachedLeaves T u first last B)
+    → P none (setOver (setWords T u first last) B) → P (reachedRefusal T u first last) (reachedLeaves T u first last B)
 unfolding reachedLeaves
 reached-cases T u first last B P a b = unless-cases (reachedRefusal T u first last) P (λ r e. a r) (λ e. b)
 

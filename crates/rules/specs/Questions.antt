@@ -101,7 +101,10 @@ reachedWords T u first last = unless (reachedRefusal T u first last) (setWords T
 unfoldable pub reachedCount : List ℕ → ℕ → ℕ → ℕ → ℕ
 reachedCount T u first last = unless (reachedRefusal T u first last) (countBelow (isReached T u first last) (animals T)) 0
 
--- The words lent for the set afterwards: its eight words at their front, as many as there is room for; words behind keep theirs, and on a
--- refusal all do.
+-- A set's eight words at the front of others, as many as there is room for; the words behind keep theirs.
+abbrev pub setOver : List ℕ → List ℕ → List ℕ
+setOver ws B = take (length B) ws ++ drop 8 B
+
+-- The words lent for the set afterwards; on a refusal all keep theirs.
 unfoldable pub reachedLeaves : List ℕ → ℕ → ℕ → ℕ → List ℕ → List ℕ
-reachedLeaves T u first last B = unless (reachedRefusal T u first last) (take (length B) (setWords T u first last) ++ drop 8 B) B
+reachedLeaves T u first last B = unless (reachedRefusal T u first last) (setOver (setWords T u first last) B) B
