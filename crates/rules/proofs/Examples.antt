@@ -27,26 +27,17 @@ allSaid s = map (λ r. r .given) (s .rows)
 all-hold : (l : List ExampleTable) → map allGiven l ≡ map allSaid l → AllHold l
 all-hold l e s m = map-agree (λ (r : Row). gives (exampleTable s) (r .call)) (λ r. r .given) (s .rows) (map-agree allGiven allSaid l e s m)
 
-marked-computed : map allGiven marked ≡ map allSaid marked
+computed : (map allGiven marked ≡ map allSaid marked) × (map allGiven worked ≡ map allSaid worked)
 unfolding
     openLeaves openRefusal tableWords flat cellWords run addLeaves addAnswer addRefusal isOpen isOf wellFormed allBelow cellWellFormed rowsWellFormed rowWellFormed allUnused
     cellsOf cellAt cellOf addedCells Rule.add Rule.departureOf Rule.arrivalOf Rule.enterBoth enter putInOrder withoutContaining hasInside latestDeparture earliestArrival later sooner
     stands holds sameCell cellsChanged sumBelow countBelow reaches reachRefusal reachAnswer momentRefusal earliestAnswer latestAnswer connects connectedRefusal connectedAnswer
     isReached setWord setWords reachedRefusal reachedAnswer reachedCount reachedLeaves departureWith leads lowest chainFrom chainOf chainRefusal chainAnswer chainLeaves
     heldWord formJourney spells claimedAnswer
-marked-computed = refl
-
-worked-computed : map allGiven worked ≡ map allSaid worked
-unfolding
-    openLeaves openRefusal tableWords flat cellWords run addLeaves addAnswer addRefusal isOpen isOf wellFormed allBelow cellWellFormed rowsWellFormed rowWellFormed allUnused
-    cellsOf cellAt cellOf addedCells Rule.add Rule.departureOf Rule.arrivalOf Rule.enterBoth enter putInOrder withoutContaining hasInside latestDeparture earliestArrival later sooner
-    stands holds sameCell cellsChanged sumBelow countBelow reaches reachRefusal reachAnswer momentRefusal earliestAnswer latestAnswer connects connectedRefusal connectedAnswer
-    isReached setWord setWords reachedRefusal reachedAnswer reachedCount reachedLeaves departureWith leads lowest chainFrom chainOf chainRefusal chainAnswer chainLeaves
-    heldWord formJourney spells claimedAnswer
-worked-computed = refl
+computed = (refl, refl)
 
 pub marked-hold : Marked
-marked-hold = all-hold marked marked-computed
+marked-hold = all-hold marked (computed .0)
 
 pub worked-hold : Worked
-worked-hold = all-hold worked worked-computed
+worked-hold = all-hold worked (computed .1)

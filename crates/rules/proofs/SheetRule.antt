@@ -28,6 +28,10 @@ use Rattle.rules.proofs.Fresh.{fresh-unique}
 use Rattle.rules.proofs.Reading.{log-first}
 use Rattle.rules.proofs.LogsRead.{zeros, zeros-length, log-text, log-fresh}
 
+and-false : (b : Bool) → (b && false) ≡ false
+and-false true = refl
+and-false false = refl
+
 -- ---- bytes
 
 bytes-beyond : (B : List ℕ) → 16384 < length B → sheetText B ≡ tooLarge
@@ -65,10 +69,6 @@ module _ {n τ δ : ℕ} {B : List ℕ} (o : OpensWith n τ δ B) where
   is-beyond : (8 < n) ⊎ (64 < τ) → isBeyond (wordsOf B) ≡ true
   is-beyond h = beyond-is ∙ ⊎-elim animals-many ticks-many h
     where
-      and-false : (b : Bool) → (b && false) ≡ false
-      and-false true = refl
-      and-false false = refl
-
       animals-many : 8 < n → not (leb n mostAnimals && leb τ mostTicks) ≡ true
       animals-many k = rw (lt-leb n mostAnimals k) refl
 
@@ -94,10 +94,6 @@ no-opening : (B : List ℕ) → WholeWords B → isOf openingLayout (getD (words
 unfolding isBeyond readAnswer readRefusal
 no-opening B w e =
     whole-sheet B w false (rw e refl) ∙ refused-text (wordsOf B) NotALog (rw (e, and-false (leb 2 (length (wordsOf B)))) refl)
-  where
-    and-false : (b : Bool) → (b && false) ≡ false
-    and-false true = refl
-    and-false false = refl
 
 refused : (n τ δ : ℕ) (B : List ℕ) → WholeWords B → OpensWith n τ δ B → n ≤ 8 → τ ≤ 64 → (T : List ℕ) → length T ≡ tableLength n τ
     → (r : Refusal) → readAnswer (wordsOf B) T ≡ Refused r → sheetText B ≡ refusedText (numberOf r)
