@@ -8,3 +8,7 @@ use Rattle.question_lists.specs.declared.Plan.{Plan}
 -- All n records are answered, or none where the table is refused.
 unfoldable pub planFor : List ℕ → ℕ → Plan
 planFor T n = record { count = unless (listRefusal T) n 0; answer = listAnswerOf (listRefusal T) n }
+
+-- The records of an array of them.
+abbrev pub mostRecords : ℕ
+mostRecords = 64

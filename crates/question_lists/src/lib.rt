@@ -1,9 +1,11 @@
 // Lists of question records, each answered in its own record. The table is checked once for the whole list.
 ghost use mathlib.Core.Path.{_≡_};
-ghost use mathlib.Core.List.{[], _∷_};
+ghost use mathlib.Core.List.{_++_};
+ghost use Prim.Native.Nat.{_≤_};
+ghost use lib.ListN.{take, drop};
 ghost use Rattle.rules.specs.Checks.{ValidTable};
 ghost use Rattle.rules.specs.QuestionList.{recordAnswerOf, asked, listAnswer, listLeaves};
-ghost use Rattle.question_lists.specs.Plans.{planFor};
+ghost use Rattle.question_lists.specs.Plans.{planFor, mostRecords};
 use checks::Verdict;
 use rules::AskAnswer;
 use rules::ListAnswer;
@@ -77,17 +79,21 @@ pub fn ask_all(table: &[u32], list: &mut [Question]) -> ListAnswer
     p.answer
 }
 
-// Four records, and what a list of them answered.
-pub struct Four {
-    pub list: [Question; 4],
+// The most records that an array of them holds.
+pub const MOST_RECORDS: usize = 64;
+
+// An array of records, and what a list of its first records answered.
+pub struct Records {
+    pub list: [Question; MOST_RECORDS],
     pub answer: ListAnswer,
 }
 
-// A list of four records by value: it is lent to `ask_all` and handed back.
-pub fn ask_four(table: &[u32], a: Question, b: Question, c: Question, d: Question) -> Four
-    ensures { λ r. ⌜ (r .list ≡ listLeaves (now (table .entry)) (a ∷ b ∷ c ∷ d ∷ [])) × (r .answer ≡ listAnswer (now (table .entry)) (a ∷ b ∷ c ∷ d ∷ [])) ⌝ }
+// From an array by value to a list lent, and back: its first `count` records are lent to `ask_all`.
+pub fn ask_first(table: &[u32], list: [Question; MOST_RECORDS], count: usize) -> Records
+    requires { ⌜ count ≤ mostRecords ⌝ }
+    ensures { λ r. ⌜ (r .list ≡ listLeaves (now (table .entry)) (take count list) ++ drop count list) × (r .answer ≡ listAnswer (now (table .entry)) (take count list)) ⌝ }
 {
-    let mut list = [a, b, c, d];
-    let answer = ask_all(table, &mut list);
-    Four { list, answer }
+    let mut lent = list;
+    let answer = ask_all(table, &mut lent[..count]);
+    Records { list: lent, answer }
 }

@@ -1,7 +1,8 @@
 // Lends a tally and a list of question records, and writes what they are afterwards. The tally and the records go by
 // value through the bridges of `tallies` and `question_lists`.
 use libc::STDOUT_FILENO;
-use question_lists::Four;
+use question_lists::MOST_RECORDS;
+use question_lists::Records;
 use rules::AddAnswer;
 use rules::ListAnswer;
 use rules::Question;
@@ -151,14 +152,23 @@ fn print_list_answer(answer: ListAnswer) {
 }
 
 // Writes the list's answer and its four records.
-fn print_four(four: Four) {
-    let answer = four.answer;
+fn print_four(records: Records) {
+    let answer = records.answer;
     print_list_answer(answer);
-    let list = four.list;
+    let list = records.list;
     print_record(list[0]);
     print_record(list[1]);
     print_record(list[2]);
     print_record(list[3]);
+}
+
+// Asks a list of four records, and writes what it is afterwards.
+fn ask_four(table: &[u32], a: Question, b: Question, c: Question, d: Question) {
+    let mut list = [a; MOST_RECORDS];
+    list[1] = b;
+    list[2] = c;
+    list[3] = d;
+    print_four(question_lists::ask_first(table, list, 4));
 }
 
 // The windows of P1 and P2.
@@ -167,7 +177,7 @@ fn ask_windows(table: &[u32]) {
     let b = unasked(0, 3, 2, 5);
     let c = unasked(0, 3, 1, 4);
     let d = unasked(0, 3, 3, 7);
-    print_four(question_lists::ask_four(table, a, b, c, d));
+    ask_four(table, a, b, c, d);
 }
 
 // P3, then a record for each of the refusals 7, 8 and 9.
@@ -176,7 +186,7 @@ fn ask_refused(table: &[u32]) {
     let b = unasked(0, 4, 1, 7);
     let c = unasked(1, 1, 1, 7);
     let d = unasked(0, 3, 1, 8);
-    print_four(question_lists::ask_four(table, a, b, c, d));
+    ask_four(table, a, b, c, d);
 }
 
 fn main() {
