@@ -12,7 +12,7 @@ fn wide(b: u8) -> u32
 }
 
 // The word of the four bytes from `at` on.
-fn word_at(bytes: &[u8], at: usize) -> u32
+pub fn word_at(bytes: &[u8], at: usize) -> u32
     requires { ⌜ at + 4 ≤ length (now bytes) ⌝ }
     ensures { λ r. ⌜ r ≡ getD (wordsOf (drop at (now (bytes .entry)))) 0 0 ⌝ }
 {

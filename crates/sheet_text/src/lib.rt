@@ -2,6 +2,7 @@
 mod input;
 mod print;
 
+pub use input::word_at;
 ghost use mathlib.Core.Path.{_≡_};
 ghost use Prim.Native.Nat.{_≤_};
 ghost use lib.ListN.{length, replicate};

@@ -40,7 +40,7 @@ use Rattle.table_text.proofs.Digits.{one-digit, last-digit}
 -- ---- numbers
 
 -- A number below ten to the power d + 1 has at most d + 1 digits.
-digits : (d k : ℕ) → k < 10 ^ suc d → length (decimal k) ≤ suc d
+pub digits : (d k : ℕ) → k < 10 ^ suc d → length (decimal k) ≤ suc d
 digits zero k h = omega (arith, ap length (one-digit k h))
 digits (suc d) k h = go (lt-outcome k 10) (digits d (k / 10))
   where
@@ -137,7 +137,7 @@ table-short T p a b =
 -- ---- sheets
 
 -- A refusal's number has at most two digits.
-number-small : (r : Refusal) → numberOf r < 100
+pub number-small : (r : Refusal) → numberOf r < 100
 number-small AnimalsBeyondLimit = omega arith
 number-small TicksBeyondLimit = omega arith
 number-small CarryBeyondLimit = omega arith

@@ -35,7 +35,7 @@ pub fn put_number(k: u32, out: &mut [u8]) -> usize
 }
 
 // Writes the number in decimal, and the byte behind it.
-pub(crate) fn put_then(k: u32, byte: u8, out: &mut [u8]) -> usize
+pub fn put_then(k: u32, byte: u8, out: &mut [u8]) -> usize
     requires { ⌜ length (decimal k ++ (byte ∷ [])) ≤ length (now out) ⌝ }
     ensures { λ r. ⌜ r ≡ length (decimal k ++ (byte ∷ [])) ⌝ }
     ensures { λ _. ⌜ now (out .exit) ≡ overwriteFront (decimal k ++ (byte ∷ [])) (now (out .entry)) ⌝ }
