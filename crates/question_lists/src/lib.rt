@@ -1,4 +1,4 @@
-// Lists of question records, each answered in its own record. The table is checked once for the whole list.
+// Lists of question records, filled in their places. The table is checked once for the whole list.
 ghost use mathlib.Core.Path.{_≡_};
 ghost use mathlib.Core.List.{_++_};
 ghost use Prim.Native.Nat.{_≤_};

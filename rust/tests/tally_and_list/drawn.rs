@@ -1,0 +1,94 @@
+//! Random contacts, questions, tallies and damage, legal or not.
+
+use crate::session::{Question, Session, MOST_TABLE};
+use herd::cases;
+use herd::random::Random;
+use herd::words::Opening;
+
+/// An opening whose table fits in the program's memory; now and then the largest.
+pub fn opening(random: &mut Random) -> Opening {
+    let small = cases::opening(random);
+    let largest = Opening::new(8, 64, random.between(1, 70));
+    random.one_of(&[small, small, small, small, small, largest])
+}
+
+/// The numbers of a contact, of which some are not legal.
+pub fn contact(random: &mut Random, opening: Opening) -> (u32, u32, u32) {
+    let (u, v) = (animal(random, opening), animal(random, opening));
+    let legal = random.between(1, opening.ticks);
+    let ends = [0, 1, opening.ticks, opening.ticks + 1, 1025, u32::MAX];
+    let end = random.one_of(&ends);
+    (u, v, random.one_of(&[legal, legal, legal, legal, end]))
+}
+
+/// The numbers of a question, of which some are not legal.
+pub fn question(random: &mut Random, opening: Opening) -> Question {
+    let (u, v) = (animal(random, opening), animal(random, opening));
+    let last = opening.last_arrival();
+    let legal = [random.between(1, last), random.between(1, last)];
+    let (low, high) = (legal[0].min(legal[1]), legal[0].max(legal[1]));
+    let ends = [0, 1, opening.ticks, last, last + 1, u32::MAX];
+    let end = random.one_of(&ends);
+    match random.below(12) {
+        0 => (u, v, end, high),
+        1 => (u, v, low, end),
+        2 => (u, v, high, low),
+        _ => (u, v, low, high),
+    }
+}
+
+/// So many questions.
+pub fn questions(random: &mut Random, opening: Opening, number: usize) -> Vec<Question> {
+    let questions = (0..number).map(|_| question(random, opening));
+    questions.collect()
+}
+
+/// An animal, now and then one that the table does not have.
+fn animal(random: &mut Random, opening: Opening) -> u32 {
+    let beyond = random.one_of(&[opening.animals, opening.animals + 1, 256, u32::MAX]);
+    let inside = random.between(0, opening.animals - 1);
+    if random.once_in(10) {
+        beyond
+    } else {
+        inside
+    }
+}
+
+/// A tally whose numbers sum to this.
+pub fn tally(random: &mut Random, sum: u64) -> [u32; 3] {
+    let most = u64::from(u32::MAX);
+    let mut left = sum;
+    let mut tally = [0; 3];
+    for (place, number) in tally.iter_mut().enumerate() {
+        let others = most * (2 - place as u64);
+        let (low, high) = (left.saturating_sub(others), left.min(most));
+        let any = low + random.bits() % (high - low + 1);
+        let drawn = random.one_of(&[low, high, any]);
+        *number = drawn as u32;
+        left -= drawn;
+    }
+    tally
+}
+
+/// Changes one or two words of the table, or its length.
+pub fn damage(random: &mut Random, session: &mut Session) {
+    let length = session.table().len();
+    let (one, other) = (random.below(length), random.below(length));
+    let place = random.one_of(&[0, one]);
+    let (word, step) = (
+        session.table()[place],
+        random.one_of(&[1, 1 << 11, u32::MAX]),
+    );
+    match random.below(6) {
+        0 => session.put(place, word ^ 1 << random.between(0, 31)),
+        1 => session.put(place, word.wrapping_add(step)),
+        2 => session.put(place, random.word()),
+        3 => session.put(place, 0),
+        4 => session.lend(random.one_of(&[0, 1, length - 1, length + 1, MOST_TABLE])),
+        _ => {
+            let swapped = (session.table()[other], session.table()[one]);
+            session.put(one, swapped.0);
+            session.put(other, swapped.1);
+        }
+    }
+}
