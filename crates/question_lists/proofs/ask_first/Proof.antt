@@ -60,7 +60,7 @@ use Rattle.rules.proofs.Question as T
 use Rattle.rules.proofs.Question.Laws as T′
 use Rattle.rules.proofs.ListAnswer as E
 use Rattle.rules.proofs.ListAnswer.Laws as E′
-use Rattle.question_lists.proofs.Machine.{R, quesT, answerT, slice₁, mach, said}
+use Rattle.question_lists.proofs.Machine.{R, answerT, slice₁, said}
 use Rattle.question_lists.specs.Plans.{mostRecords}
 use Rattle.question_lists.proofs.Records as F
 use Rattle.question_lists.proofs.Records.Laws as F′

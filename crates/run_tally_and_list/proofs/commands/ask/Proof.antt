@@ -1,5 +1,4 @@
 -- `commands::ask` keeps the bounds, and the reply of its list fits.
-use lib.Seq.{length-take-le}
 use native.Mathlib.Omega.{arith}
 use borrow.Author.Needs.{needs}
 use Rattle.run_tally_and_list.proofs.Lines.{reply-fits}

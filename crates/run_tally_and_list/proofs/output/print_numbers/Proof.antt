@@ -1,5 +1,5 @@
 -- `output::print_numbers` keeps within its text. The loop's invariant: the text has its length, and what it holds is within.
-use mathlib.Core.Path.{_≡_, refl, sym}
+use mathlib.Core.Path.{_≡_, sym}
 use Prim.Native.Nat.{_-_, _≤_}
 use lib.ListN.{length}
 use lib.Seq.{length-take-le}

@@ -1,6 +1,5 @@
 -- `output::print_records` takes only records of the array.
 use Prim.Native.Nat.{_-_, _≤_}
-use native.Mathlib.Omega.{arith}
 use borrow.Author.Needs.{needs}
 use Rattle.question_lists.specs.Plans.{mostRecords}
 use Rattle.run_tally_and_list.proofs.output.print_records.Statement.{statement}

@@ -1,5 +1,4 @@
 -- `output::put_number` keeps within the text.
-use Prim.Native.Nat.{_<_, _^_}
 use native.Mathlib.Omega.{arith}
 use borrow.Author.Needs.{needs}
 use Rattle.run_tally_and_list.proofs.Lines.{number-short, number-fits}
