@@ -1,17 +1,64 @@
-//! Safe calls of the proved contact tracing engine, and what its comparison tests need.
+//! Safe calls of the proved contact tracing engine.
 //!
-//! `ffi` calls the engine. `model` says by a plain search over contacts what a table must hold;
-//! `rule`, `check` and `calls` say it from the text of document 01, for tables that no adds built;
-//! `sheet` says what the printing program writes.
+//! The caller lends a table of 1 + n·n·(τ+1) words for n animals and τ ticks. [`open`] opens it, [`add`] adds a contact,
+//! [`read_log`] loads a whole log and [`write_log`] writes one. [`reach`], [`earliest`], [`latest`], [`connected`],
+//! [`reached`] and [`chain`] ask about the journeys of the contacts that were added, and [`claimed`] judges a chain that
+//! somebody claims. A call keeps nothing but the words lent to it, and reads and writes only these.
+//!
+//! # Refusals
+//!
+//! What a call cannot do it refuses with a number, and then every lent word is as before. Any words and any numbers may be
+//! given; the checks run in this order, and the first that fails gives its number:
+//!
+//! | calls | number | given when |
+//! |---|---|---|
+//! | `open` | 1, 2, 3 | animals, ticks, carry time beyond their limits (1 to 256, 1 to 1,024, 1 to 256) |
+//! | `open` | 4 | the table has not the length for these numbers |
+//! | `read_log` | 11 | fewer than 2 words, or no opening word first |
+//! | `read_log` | 4 | the table has not the length for this opening word |
+//! | `read_log` | 12, 13 | a word between is no contact word, or its contact is not legal |
+//! | `read_log` | 14 | the last word is no end word with the number of the words between |
+//! | all others | 5 | the table is empty, has no opening word first, or not the length for it |
+//! | all others | 6 | some cell of the table is not well formed |
+//! | those with animals | 7 | an animal is n or above |
+//! | those with two | 8 | both animals are the same |
+//! | those with ticks | 9 | a tick is out of range, or first is after last |
+//! | `chain` | 10 | the buffer is shorter than n−1 words |
+//! | `write_log` | 15 | the buffer is shorter than the contacts held and 2 |
+//!
+//! The tick of a contact is 1 to τ; every tick of a question is 1 to τ+δ, with δ the carry time.
+//!
+//! # A session
+//!
+//! ```
+//! use herd::{Added, Answer, Chain, Opened, Tick};
+//!
+//! let mut table = vec![0; 1 + 4 * 4 * 7];
+//! assert_eq!(herd::open(&mut table, 4, 6, 1), Opened::Opened);
+//! assert_eq!(herd::add(&mut table, 1, 3, 4), Added::New(1));
+//! assert_eq!(herd::add(&mut table, 0, 1, 2), Added::New(2));
+//! assert_eq!(herd::reach(&table, 0, 3, 1, 5), Answer::Yes);
+//! assert_eq!(herd::reach(&table, 0, 3, 3, 7), Answer::No);
+//! assert_eq!(herd::earliest(&table, 0, 3, 2), Tick::At(5));
+//! let mut words = [0; 3];
+//! assert_eq!(herd::chain(&table, 0, 3, 1, 7, &mut words), Chain::Contacts(2));
+//! assert_eq!(words, [0x4000_0401, 0x4004_0C03, 0]);
+//! ```
+//!
+//! # Tests
+//!
+//! [`testing`] is no part of the product: the comparison tests and the bench use it.
 
-pub mod calls;
-pub mod cases;
-pub mod check;
-pub mod compare;
-pub mod ffi;
-pub mod guard;
-pub mod model;
-pub mod random;
-pub mod rule;
-pub mod sheet;
-pub mod words;
+mod answers;
+mod chains;
+mod exports;
+mod logs;
+mod questions;
+mod tables;
+pub mod testing;
+
+pub use answers::{Added, Answer, Chain, Opened, Reached, Read, Tick, Written};
+pub use chains::{chain, claimed};
+pub use logs::{read_log, write_log};
+pub use questions::{connected, earliest, latest, reach, reached};
+pub use tables::{add, open};

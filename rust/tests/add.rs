@@ -1,11 +1,12 @@
 //! Adding, on tables that adds built, against the plain search.
 
-use herd::cases;
-use herd::compare::same_words;
-use herd::ffi::{self, Added, Opened};
-use herd::model::{self, Contacts};
-use herd::random::Random;
-use herd::words::{self, Cells, Contact, Opening};
+use herd::testing::calls::accepted;
+use herd::testing::cases;
+use herd::testing::compare::same_words;
+use herd::testing::model::{self, Contacts};
+use herd::testing::random::Random;
+use herd::testing::words::{self, Cells, Contact, Opening};
+use herd::{Added, Opened};
 
 /// A table of the engine's beside the set of contacts that it was given.
 struct Office {
@@ -19,7 +20,7 @@ impl Office {
     /// Opens a table over words of no meaning.
     fn new(random: &mut Random, opening: Opening) -> Office {
         let mut table = random.words(opening.table_words());
-        let answer = ffi::open(&mut table, opening.animals, opening.ticks, opening.carry);
+        let answer = herd::open(&mut table, opening.animals, opening.ticks, opening.carry);
         assert_eq!(answer, Opened::Opened, "{opening:?}");
         let contacts = Contacts::new();
         let intervals = model::minimal_intervals(opening, &contacts);
@@ -37,8 +38,8 @@ impl Office {
         let new = self.contacts.insert(contact);
         let intervals = model::minimal_intervals(self.opening, &self.contacts);
         let changed = model::changed_pairs(&self.intervals, &intervals);
-        let expected = Added::accepted(!new, changed);
-        let answer = ffi::add(&mut self.table, contact.from, contact.to, contact.tick);
+        let expected = accepted(!new, changed);
+        let answer = herd::add(&mut self.table, contact.from, contact.to, contact.tick);
         let case = (self.opening, contact, &self.contacts);
         assert_eq!(answer, expected, "{case:?}");
         same_words(&self.table, &words::table(self.opening, &intervals), case);
@@ -48,7 +49,7 @@ impl Office {
 
     /// Makes a call that is refused with this number, and compares every word.
     fn refuse(&mut self, (u, v, t): (u32, u32, u32), number: u32) {
-        let answer = ffi::add(&mut self.table, u, v, t);
+        let answer = herd::add(&mut self.table, u, v, t);
         let case = (self.opening, u, v, t);
         assert_eq!(answer, Added::Refused(number), "{case:?}");
         same_words(
@@ -126,12 +127,12 @@ fn every_contact_more_on_every_set_of_small_tables() {
             for (i, contact) in legal.iter().enumerate() {
                 let more = bits | 1 << i;
                 let mut table = fresh[bits].clone();
-                let answer = ffi::add(&mut table, contact.from, contact.to, contact.tick);
+                let answer = herd::add(&mut table, contact.from, contact.to, contact.tick);
                 let (before, after) = (&fresh[bits][1..], &fresh[more][1..]);
                 let size = opening.cell_words();
                 let pairs = before.chunks(size).zip(after.chunks(size));
                 let changed = pairs.filter(|(b, a)| b != a).count() as u32;
-                let expected = Added::accepted(more == bits, changed);
+                let expected = accepted(more == bits, changed);
                 assert_eq!(answer, expected, "{opening:?} {contact:?} {:?}", set(bits));
                 if table != fresh[more] {
                     same_words(&table, &fresh[more], (opening, contact, set(bits)));
@@ -153,9 +154,9 @@ fn two_loading_orders_leave_equal_tables() {
         let mut tables = Vec::new();
         for _ in 0..2 {
             let mut table = random.words(opening.table_words());
-            assert_eq!(ffi::open(&mut table, n, ticks, carry), Opened::Opened);
+            assert_eq!(herd::open(&mut table, n, ticks, carry), Opened::Opened);
             for &(u, v, t) in &calls {
-                let answer = ffi::add(&mut table, u, v, t);
+                let answer = herd::add(&mut table, u, v, t);
                 let refused = match answer {
                     Added::Refused(number) => Some(number),
                     _ => None,
@@ -186,12 +187,12 @@ fn a_row_for_every_tick() {
     for (ticks, carry) in [(1, 1), (2, 3), (1000, 7), (1024, 1), (1024, 256)] {
         let opening = Opening::new(2, ticks, carry);
         let mut table = random.words(opening.table_words());
-        assert_eq!(ffi::open(&mut table, 2, ticks, carry), Opened::Opened);
+        assert_eq!(herd::open(&mut table, 2, ticks, carry), Opened::Opened);
         let mut contacts = cases::legal_contacts(opening);
         for expected in [Added::New(1), Added::Known(0)] {
             random.shuffle(&mut contacts);
             for contact in &contacts {
-                let answer = ffi::add(&mut table, contact.from, contact.to, contact.tick);
+                let answer = herd::add(&mut table, contact.from, contact.to, contact.tick);
                 assert_eq!(answer, expected, "{opening:?} {contact:?}");
             }
             let full = words::table(opening, &cases::full_cells(opening));

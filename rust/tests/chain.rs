@@ -1,14 +1,14 @@
 //! The chain question, against the plain search over contacts and against document 01's text.
 
-use herd::cases::{self, Question};
-use herd::compare::{same_table, same_words};
-use herd::ffi::chain::{chain, Chain};
-use herd::ffi::{self, Added, Opened};
-use herd::guard::{Guarded, Place, PLACES};
-use herd::model::{self, Contacts, Journeys};
-use herd::random::Random;
-use herd::words::{self, Cells, Contact, Interval, Opening};
-use herd::{calls, rule};
+use herd::testing::cases::{self, Question};
+use herd::testing::compare::{same_table, same_words};
+use herd::testing::guard::{Guarded, Place, PLACES};
+use herd::testing::model::{self, Contacts, Journeys};
+use herd::testing::random::Random;
+use herd::testing::words::{self, Cells, Contact, Interval, Opening};
+use herd::testing::{calls, rule};
+use herd::{chain, Chain};
+use herd::{Added, Opened};
 use std::fmt::Debug;
 
 /// A chain, no journey, or a refusal's number.
@@ -48,10 +48,10 @@ fn contacts<const N: usize>(listed: [(u32, u32, u32); N]) -> [Contact; N] {
 /// The table that the contacts make when they are added in this order, over words of no meaning.
 fn built(random: &mut Random, opening: Opening, contacts: &[Contact]) -> Vec<u32> {
     let mut table = random.words(opening.table_words());
-    let opened = ffi::open(&mut table, opening.animals, opening.ticks, opening.carry);
+    let opened = herd::open(&mut table, opening.animals, opening.ticks, opening.carry);
     assert_eq!(opened, Opened::Opened, "{opening:?}");
     for contact in contacts {
-        let added = ffi::add(&mut table, contact.from, contact.to, contact.tick);
+        let added = herd::add(&mut table, contact.from, contact.to, contact.tick);
         let accepted = matches!(added, Added::New(_) | Added::Known(_));
         assert!(accepted, "{opening:?} {contact:?} {added:?}");
     }
@@ -468,7 +468,7 @@ fn every_question_of_every_set_on_small_tables() {
             if bits > 0 {
                 let mut table = tables[bits & (bits - 1)].clone();
                 let more = legal[bits.trailing_zeros() as usize];
-                let added = ffi::add(&mut table, more.from, more.to, more.tick);
+                let added = herd::add(&mut table, more.from, more.to, more.tick);
                 assert!(matches!(added, Added::New(_)), "{opening:?} {more:?}");
                 tables.push(table);
             }
@@ -1050,9 +1050,9 @@ fn questions_on_the_largest_table() {
     let mut memory = vec![0; opening.table_words() + 1];
     let length = memory.len() - 1;
     let table = &mut memory[..length];
-    assert_eq!(ffi::open(table, 256, 1024, 256), Opened::Opened);
+    assert_eq!(herd::open(table, 256, 1024, 256), Opened::Opened);
     for contact in listed {
-        let added = ffi::add(table, contact.from, contact.to, contact.tick);
+        let added = herd::add(table, contact.from, contact.to, contact.tick);
         assert!(matches!(added, Added::New(_)), "{contact:?}");
     }
     let way = words::log(opening, listed[1..].iter().rev().copied());

@@ -1,10 +1,10 @@
 //! Tables with wrong words, against an independent check written from document 01.
 
-use herd::compare::same_words;
-use herd::ffi::{self, Added};
-use herd::random::Random;
-use herd::words::{self, Cells, Interval, Opening};
-use herd::{calls, cases};
+use herd::testing::compare::same_words;
+use herd::testing::random::Random;
+use herd::testing::words::{self, Cells, Interval, Opening};
+use herd::testing::{calls, cases};
+use herd::Added;
 use std::collections::BTreeMap;
 
 /// A well-formed table with its cells.
@@ -219,7 +219,7 @@ fn compare(words: &[u32], numbers: (u32, u32, u32), case: &str) -> Added {
     let (u, v, t) = numbers;
     let (expected, after) = calls::add(words, u, v, t);
     let mut table = words.to_vec();
-    let answer = ffi::add(&mut table, u, v, t);
+    let answer = herd::add(&mut table, u, v, t);
     assert_eq!(answer, expected, "{case}: {numbers:?} on {words:08X?}");
     same_words(&table, &after, (case, numbers));
     answer

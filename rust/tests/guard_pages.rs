@@ -1,12 +1,12 @@
 //! Tables and logs that touch memory which cannot be read or written.
 
-use herd::compare::same_words;
-use herd::ffi::log::{read_log, Read};
-use herd::ffi::{self, Added, Opened};
-use herd::guard::{Guarded, PLACES};
-use herd::random::Random;
-use herd::words::{self, Opening};
-use herd::{calls, cases};
+use herd::testing::compare::same_words;
+use herd::testing::guard::{Guarded, PLACES};
+use herd::testing::random::Random;
+use herd::testing::words::{self, Opening};
+use herd::testing::{calls, cases};
+use herd::{read_log, Read};
+use herd::{Added, Opened};
 
 /// Runs an add on a copy of the words at each guard, and compares it with document 01.
 fn add_at_guards(words: &[u32], (u, v, t): (u32, u32, u32)) -> Added {
@@ -14,7 +14,7 @@ fn add_at_guards(words: &[u32], (u, v, t): (u32, u32, u32)) -> Added {
     for place in PLACES {
         let mut table = Guarded::new(place, words);
         let case = (place, words.len(), u, v, t);
-        assert_eq!(ffi::add(&mut table, u, v, t), expected, "{case:?}");
+        assert_eq!(herd::add(&mut table, u, v, t), expected, "{case:?}");
         same_words(&table, &after, case);
     }
     expected
@@ -47,7 +47,7 @@ fn opening_stays_inside() {
                     let (expected, after) = calls::open(&words, animals, ticks, carry);
                     for place in PLACES {
                         let mut table = Guarded::new(place, &words);
-                        let answer = ffi::open(&mut table, animals, ticks, carry);
+                        let answer = herd::open(&mut table, animals, ticks, carry);
                         let case = (place, animals, ticks, carry, length);
                         assert_eq!(answer, expected, "{case:?}");
                         same_words(&table, &after, case);
@@ -66,12 +66,12 @@ fn adding_stays_inside() {
             let opening = cases::opening(&mut random);
             let (n, ticks, carry) = (opening.animals, opening.ticks, opening.carry);
             let mut table = Guarded::new(place, &random.words(opening.table_words()));
-            assert_eq!(ffi::open(&mut table, n, ticks, carry), Opened::Opened);
+            assert_eq!(herd::open(&mut table, n, ticks, carry), Opened::Opened);
             for _ in 0..30 {
                 let (u, v, t) = cases::numbers(&mut random, opening);
                 let (expected, after) = calls::add(&table, u, v, t);
                 assert_eq!(
-                    ffi::add(&mut table, u, v, t),
+                    herd::add(&mut table, u, v, t),
                     expected,
                     "{opening:?} {u} {v} {t}"
                 );

@@ -1,9 +1,10 @@
 //! The largest table: 256 animals, 1,024 ticks.
 
-use herd::compare::same_table;
-use herd::ffi::{self, Added, Opened};
-use herd::model::{self, Contacts};
-use herd::words::{self, Contact, Interval, Opening};
+use herd::testing::calls::accepted;
+use herd::testing::compare::same_table;
+use herd::testing::model::{self, Contacts};
+use herd::testing::words::{self, Contact, Interval, Opening};
+use herd::{Added, Opened};
 
 #[test]
 fn opening_and_a_few_adds() {
@@ -13,12 +14,12 @@ fn opening_and_a_few_adds() {
     let mut memory = vec![0x5555_5555; length + 1];
 
     for wrong in [length - 1, length + 1] {
-        let answer = ffi::open(&mut memory[..wrong], 256, 1024, 256);
+        let answer = herd::open(&mut memory[..wrong], 256, 1024, 256);
         assert_eq!(answer, Opened::Refused(4));
     }
     assert!(memory.iter().all(|&word| word == 0x5555_5555));
     let table = &mut memory[..length];
-    assert_eq!(ffi::open(table, 256, 1024, 256), Opened::Opened);
+    assert_eq!(herd::open(table, 256, 1024, 256), Opened::Opened);
 
     let mut contacts = Contacts::new();
     let mut intervals = model::minimal_intervals(opening, &contacts);
@@ -39,8 +40,8 @@ fn opening_and_a_few_adds() {
         let new = contacts.insert(contact);
         let after = model::minimal_intervals(opening, &contacts);
         let changed = model::changed_pairs(&intervals, &after);
-        let answer = ffi::add(table, u, v, t);
-        let expected = Added::accepted(!new, changed);
+        let answer = herd::add(table, u, v, t);
+        let expected = accepted(!new, changed);
         assert_eq!(answer, expected, "{contact:?}");
         for x in [0, 3, 7, 254, 255] {
             for y in [0, 3, 7, 254, 255] {
@@ -76,14 +77,14 @@ fn opening_and_a_few_adds() {
         ((255, 255, 1), 8),
         ((0, 1, 1025), 9),
     ] {
-        assert_eq!(ffi::add(table, u, v, t), Added::Refused(number));
+        assert_eq!(herd::add(table, u, v, t), Added::Refused(number));
     }
     let last = length - 1;
     table[last] = 1;
-    assert_eq!(ffi::add(table, 0, 1, 1), Added::Refused(6));
+    assert_eq!(herd::add(table, 0, 1, 1), Added::Refused(6));
     table[last] = 0;
-    assert_eq!(ffi::add(&mut table[..last], 0, 1, 1), Added::Refused(5));
-    assert_eq!(ffi::add(&mut memory, 0, 1, 1), Added::Refused(5));
+    assert_eq!(herd::add(&mut table[..last], 0, 1, 1), Added::Refused(5));
+    assert_eq!(herd::add(&mut memory, 0, 1, 1), Added::Refused(5));
     same_table(&memory[..length], opening, &intervals, "refused");
     assert_eq!(memory[length], 0x5555_5555);
 }

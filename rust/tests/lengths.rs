@@ -1,18 +1,22 @@
 //! Tables of a wrong length.
 
-use herd::cases;
-use herd::compare::same_words;
-use herd::ffi::{self, Added, Opened};
-use herd::guard::{Guarded, Place};
-use herd::random::Random;
-use herd::words::{self, Opening};
+use herd::testing::cases;
+use herd::testing::compare::same_words;
+use herd::testing::guard::{Guarded, Place};
+use herd::testing::random::Random;
+use herd::testing::words::{self, Opening};
+use herd::{Added, Opened};
 
 /// Adds to words that are no open table: refused with 5, every word as before.
 fn refused(random: &mut Random, opening: Opening, words: &[u32]) {
     let (u, v, t) = cases::numbers(random, opening);
     let mut table = words.to_vec();
     let case = (opening, words.len(), u, v, t);
-    assert_eq!(ffi::add(&mut table, u, v, t), Added::Refused(5), "{case:?}");
+    assert_eq!(
+        herd::add(&mut table, u, v, t),
+        Added::Refused(5),
+        "{case:?}"
+    );
     same_words(&table, words, case);
 }
 
@@ -73,9 +77,9 @@ fn a_length_beyond_32_bits() {
     let opening = Opening::new(4, 6, 1);
     let table = words::table(opening, &vec![Vec::new(); opening.pairs()]);
     let mut vast = Guarded::zero(Place::StartsAtGuard, table.len() + (1 << 32));
-    assert_eq!(ffi::open(&mut vast, 4, 6, 1), Opened::Refused(4));
+    assert_eq!(herd::open(&mut vast, 4, 6, 1), Opened::Refused(4));
     assert!(vast[..200].iter().all(|&word| word == 0));
     vast[..table.len()].copy_from_slice(&table);
-    assert_eq!(ffi::add(&mut vast, 0, 1, 1), Added::Refused(5));
+    assert_eq!(herd::add(&mut vast, 0, 1, 1), Added::Refused(5));
     same_words(&vast[..table.len()], &table, "vast");
 }

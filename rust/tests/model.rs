@@ -1,10 +1,12 @@
 //! The plain search and the naive rule themselves, on document 01's cases and against each other.
 
-use herd::ffi::log::Read;
-use herd::model::{self, Contacts};
-use herd::random::Random;
-use herd::words::{self, Contact, Interval, Opening};
-use herd::{calls, cases, ffi::Added, rule};
+use herd::testing::calls::accepted;
+use herd::testing::model::{self, Contacts};
+use herd::testing::random::Random;
+use herd::testing::words::{self, Contact, Interval, Opening};
+use herd::testing::{calls, cases, rule};
+use herd::Added;
+use herd::Read;
 
 /// The contacts of document 01's session.
 fn session() -> Contacts {
@@ -151,7 +153,7 @@ fn rule_builds_what_the_search_finds() {
             let fresh = model::minimal_intervals(opening, &contacts);
             let changed = model::changed_pairs(&cells, &fresh);
             let (after, answer) = rule::add(opening, &cells, contact);
-            let expected = Added::accepted(!new, changed);
+            let expected = accepted(!new, changed);
             assert_eq!(
                 (&after, answer),
                 (&fresh, expected),

@@ -1,10 +1,10 @@
 //! Adding to well-formed tables that no adds built, against the naive rule.
 
-use herd::compare::same_words;
-use herd::ffi::{self, Added};
-use herd::random::Random;
-use herd::words::{self, Opening};
-use herd::{calls, cases, rule};
+use herd::testing::compare::same_words;
+use herd::testing::random::Random;
+use herd::testing::words::{self, Opening};
+use herd::testing::{calls, cases, rule};
+use herd::Added;
 
 #[test]
 fn adds_follow_the_rule() {
@@ -18,7 +18,7 @@ fn adds_follow_the_rule() {
             let contact = cases::contact(&mut random, opening);
             let case = (opening, &cells, contact);
             let (after, expected) = rule::add(opening, &cells, contact);
-            let answer = ffi::add(&mut table, contact.from, contact.to, contact.tick);
+            let answer = herd::add(&mut table, contact.from, contact.to, contact.tick);
             assert_eq!(answer, expected, "{case:?}");
             same_words(&table, &words::table(opening, &after), case);
             match answer {
@@ -44,7 +44,7 @@ fn refused_calls_keep_every_word() {
         let mut table = words::table(opening, &cases::cells(&mut random, opening));
         let (u, v, t) = cases::numbers(&mut random, opening);
         let (expected, after) = calls::add(&table, u, v, t);
-        let answer = ffi::add(&mut table, u, v, t);
+        let answer = herd::add(&mut table, u, v, t);
         assert_eq!(answer, expected, "{opening:?} {u} {v} {t}");
         same_words(&table, &after, (opening, u, v, t));
         if let Added::Refused(number) = answer {
@@ -70,7 +70,7 @@ fn long_cells_follow_the_rule() {
             let contact = cases::contact(&mut random, opening);
             let mut table = words::table(opening, &cells);
             let (after, expected) = rule::add(opening, &cells, contact);
-            let answer = ffi::add(&mut table, contact.from, contact.to, contact.tick);
+            let answer = herd::add(&mut table, contact.from, contact.to, contact.tick);
             assert_eq!(answer, expected, "{opening:?} {contact:?}");
             same_words(&table, &words::table(opening, &after), (opening, contact));
         }

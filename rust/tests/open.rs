@@ -1,9 +1,9 @@
 //! Opening: the limits, the length and the order of the refusals.
 
-use herd::calls;
-use herd::compare::same_words;
-use herd::ffi::{self, Opened};
-use herd::random::Random;
+use herd::testing::calls;
+use herd::testing::compare::same_words;
+use herd::testing::random::Random;
+use herd::Opened;
 
 /// Numbers of animals at and beyond the limits, with some whose square wraps in 32 bits.
 const ANIMALS: [u32; 10] = [0, 1, 2, 3, 255, 256, 257, 1 << 16, 1 << 31, u32::MAX];
@@ -42,7 +42,7 @@ fn every_combination_at_the_limits() {
                 for length in lengths(animals, ticks) {
                     let case = (animals, ticks, carry, length);
                     let mut table = filling[..length].to_vec();
-                    let answer = ffi::open(&mut table, animals, ticks, carry);
+                    let answer = herd::open(&mut table, animals, ticks, carry);
                     let (expected, after) = calls::open(&filling[..length], animals, ticks, carry);
                     assert_eq!(answer, expected, "{case:?}");
                     same_words(&table, &after, case);
@@ -71,14 +71,14 @@ fn refusals_come_in_order() {
         ((256, 1024, 256), 4),
     ];
     for ((animals, ticks, carry), number) in refused {
-        let answer = ffi::open(&mut table, animals, ticks, carry);
+        let answer = herd::open(&mut table, animals, ticks, carry);
         assert_eq!(answer, Opened::Refused(number), "{animals} {ticks} {carry}");
         assert_eq!(table, [7; 113]);
-        let empty = ffi::open(&mut [], animals, ticks, carry);
+        let empty = herd::open(&mut [], animals, ticks, carry);
         assert_eq!(empty, Opened::Refused(number), "{animals} {ticks} {carry}");
     }
-    assert_eq!(ffi::open(&mut [], 4, 6, 1), Opened::Refused(4));
-    assert_eq!(ffi::open(&mut table, 4, 6, 1), Opened::Opened);
+    assert_eq!(herd::open(&mut [], 4, 6, 1), Opened::Refused(4));
+    assert_eq!(herd::open(&mut table, 4, 6, 1), Opened::Opened);
     assert_eq!(table[..3], [0x800C_0005, 0xC000_0000, 0]);
 }
 
@@ -86,12 +86,12 @@ fn refusals_come_in_order() {
 fn opening_again_empties_a_table() {
     let mut random = Random::new(102);
     for _ in 0..200 {
-        let opening = herd::cases::opening(&mut random);
-        let cells = herd::cases::cells(&mut random, opening);
-        let mut table = herd::words::table(opening, &cells);
+        let opening = herd::testing::cases::opening(&mut random);
+        let cells = herd::testing::cases::cells(&mut random, opening);
+        let mut table = herd::testing::words::table(opening, &cells);
         let (n, ticks, carry) = (opening.animals, opening.ticks, random.between(1, 256));
         let (expected, after) = calls::open(&table, n, ticks, carry);
-        assert_eq!(ffi::open(&mut table, n, ticks, carry), expected);
+        assert_eq!(herd::open(&mut table, n, ticks, carry), expected);
         assert_eq!(expected, Opened::Opened);
         same_words(&table, &after, (opening, carry));
     }

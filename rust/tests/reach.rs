@@ -1,14 +1,15 @@
 //! The reach question, against the plain search over contacts and against document 01's text.
 
-use herd::cases::{self, Question};
-use herd::compare::{same_table, same_words};
-use herd::ffi::reach::{reach, Reach};
-use herd::ffi::{self, Added, Opened};
-use herd::guard::{Guarded, Place, PLACES};
-use herd::model::{self, Contacts};
-use herd::random::Random;
-use herd::words::{self, Contact, Interval, Opening};
-use herd::{calls, rule};
+use herd::testing::calls::answered;
+use herd::testing::cases::{self, Question};
+use herd::testing::compare::{same_table, same_words};
+use herd::testing::guard::{Guarded, Place, PLACES};
+use herd::testing::model::{self, Contacts};
+use herd::testing::random::Random;
+use herd::testing::words::{self, Contact, Interval, Opening};
+use herd::testing::{calls, rule};
+use herd::{reach, Answer};
+use herd::{Added, Opened};
 
 /// How often each answer was given: yes, no, and the refusals by number.
 #[derive(Debug, Default)]
@@ -20,11 +21,11 @@ struct Seen {
 
 impl Seen {
     /// Counts one answer more.
-    fn note(&mut self, answer: Reach) {
+    fn note(&mut self, answer: Answer) {
         match answer {
-            Reach::Yes => self.yes += 1,
-            Reach::No => self.no += 1,
-            Reach::Refused(number) => self.refused[number as usize] += 1,
+            Answer::Yes => self.yes += 1,
+            Answer::No => self.no += 1,
+            Answer::Refused(number) => self.refused[number as usize] += 1,
         }
     }
 
@@ -38,10 +39,10 @@ impl Seen {
 /// The table that the contacts make when they are added in this order, over words of no meaning.
 fn built(random: &mut Random, opening: Opening, contacts: &[Contact]) -> Vec<u32> {
     let mut table = random.words(opening.table_words());
-    let opened = ffi::open(&mut table, opening.animals, opening.ticks, opening.carry);
+    let opened = herd::open(&mut table, opening.animals, opening.ticks, opening.carry);
     assert_eq!(opened, Opened::Opened, "{opening:?}");
     for contact in contacts {
-        let added = ffi::add(&mut table, contact.from, contact.to, contact.tick);
+        let added = herd::add(&mut table, contact.from, contact.to, contact.tick);
         let accepted = matches!(added, Added::New(_) | Added::Known(_));
         assert!(accepted, "{opening:?} {contact:?} {added:?}");
     }
@@ -68,14 +69,14 @@ fn expected(
     opening: Opening,
     (u, v, first, last): Question,
     fits: impl Fn(u32, u32, Interval) -> bool,
-) -> Reach {
+) -> Answer {
     let beyond = [u, v].iter().any(|&animal| animal >= opening.animals);
     let outside = |tick: u32| tick == 0 || tick > opening.last_arrival();
     let ticks = outside(first) || outside(last) || first > last;
     let checks = [(beyond, 7), (u == v, 8), (ticks, 9)];
     match checks.iter().find(|check| check.0) {
-        Some(&(_, number)) => Reach::Refused(number),
-        None => Reach::answered(fits(u, v, Interval::new(first, last))),
+        Some(&(_, number)) => Answer::Refused(number),
+        None => answered(fits(u, v, Interval::new(first, last))),
     }
 }
 
@@ -105,7 +106,7 @@ fn every_question(
 }
 
 /// Asks one question on any words, and compares the answer with document 01.
-fn compare(words: &[u32], (u, v, first, last): Question, case: &str) -> Reach {
+fn compare(words: &[u32], (u, v, first, last): Question, case: &str) -> Answer {
     let expected = calls::reach(words, u, v, first, last);
     let answer = reach(words, u, v, first, last);
     let question = (u, v, first, last);
@@ -114,9 +115,9 @@ fn compare(words: &[u32], (u, v, first, last): Question, case: &str) -> Reach {
 }
 
 /// Asks the questions on a copy of the words at each guard, which cannot be written, and compares the answers with document 01.
-fn compare_at_guards(words: &[u32], questions: &[Question]) -> Vec<Reach> {
+fn compare_at_guards(words: &[u32], questions: &[Question]) -> Vec<Answer> {
     let asked = |&(u, v, first, last): &Question| calls::reach(words, u, v, first, last);
-    let expected: Vec<Reach> = questions.iter().map(asked).collect();
+    let expected: Vec<Answer> = questions.iter().map(asked).collect();
     for place in PLACES {
         let table = Guarded::new(place, words).freeze();
         for (&(u, v, first, last), &expected) in questions.iter().zip(&expected) {
@@ -146,17 +147,17 @@ fn session_of_document_01() {
         [2, 1, 0],
     ];
     let asked = [
-        ("P1", (0, 3, 1, 5), Reach::Yes),
-        ("P1", (0, 3, 2, 5), Reach::Yes),
-        ("P2", (0, 3, 1, 4), Reach::No),
-        ("P2", (0, 3, 3, 7), Reach::No),
-        ("P3", (3, 0, 1, 7), Reach::No),
-        ("whole window", (0, 3, 1, 7), Reach::Yes),
-        ("one tick more", (0, 3, 1, 8), Reach::Refused(9)),
-        ("from tick 0", (0, 3, 0, 5), Reach::Refused(9)),
-        ("backward", (0, 3, 5, 2), Reach::Refused(9)),
-        ("one animal", (3, 3, 1, 5), Reach::Refused(8)),
-        ("animal 4", (0, 4, 1, 5), Reach::Refused(7)),
+        ("P1", (0, 3, 1, 5), Answer::Yes),
+        ("P1", (0, 3, 2, 5), Answer::Yes),
+        ("P2", (0, 3, 1, 4), Answer::No),
+        ("P2", (0, 3, 3, 7), Answer::No),
+        ("P3", (3, 0, 1, 7), Answer::No),
+        ("whole window", (0, 3, 1, 7), Answer::Yes),
+        ("one tick more", (0, 3, 1, 8), Answer::Refused(9)),
+        ("from tick 0", (0, 3, 0, 5), Answer::Refused(9)),
+        ("backward", (0, 3, 5, 2), Answer::Refused(9)),
+        ("one animal", (3, 3, 1, 5), Answer::Refused(8)),
+        ("animal 4", (0, 4, 1, 5), Answer::Refused(7)),
     ];
     for order in orders {
         let table = built(&mut random, opening, &order.map(|i| session()[i]));
@@ -176,13 +177,13 @@ fn longer_carry_times_of_document_01() {
         let opening = Opening::new(4, 6, carry);
         let table = built(&mut random, opening, &session());
         let ask = |first, last| reach(&table, 0, 3, first, last);
-        assert_eq!(ask(departure, arrival), Reach::Yes, "{carry}");
-        assert_eq!(ask(1, opening.last_arrival()), Reach::Yes, "{carry}");
-        assert_eq!(ask(departure, arrival - 1), Reach::No, "{carry}");
-        assert_eq!(ask(1, arrival - 1), Reach::No, "{carry}");
-        assert_eq!(ask(departure + 1, arrival), Reach::No, "{carry}");
+        assert_eq!(ask(departure, arrival), Answer::Yes, "{carry}");
+        assert_eq!(ask(1, opening.last_arrival()), Answer::Yes, "{carry}");
+        assert_eq!(ask(departure, arrival - 1), Answer::No, "{carry}");
+        assert_eq!(ask(1, arrival - 1), Answer::No, "{carry}");
+        assert_eq!(ask(departure + 1, arrival), Answer::No, "{carry}");
         let late = ask(departure + 1, opening.last_arrival());
-        assert_eq!(late, Reach::No, "{carry}");
+        assert_eq!(late, Answer::No, "{carry}");
     }
 }
 
@@ -228,7 +229,7 @@ fn every_question_of_every_set_on_small_tables() {
             if bits > 0 {
                 let mut table = tables[bits & (bits - 1)].clone();
                 let more = legal[bits.trailing_zeros() as usize];
-                let added = ffi::add(&mut table, more.from, more.to, more.tick);
+                let added = herd::add(&mut table, more.from, more.to, more.tick);
                 assert!(matches!(added, Added::New(_)), "{opening:?} {more:?}");
                 tables.push(table);
             }
@@ -375,17 +376,17 @@ fn refusals_come_in_order() {
         for (first, last) in windows {
             let ask = |words: &[u32]| reach(words, u, v, first, last);
             let case = (u, v, first, last);
-            assert_eq!(ask(&[]), Reach::Refused(5), "{case:?}");
-            assert_eq!(ask(&unopened), Reach::Refused(5), "{case:?}");
-            assert_eq!(ask(&damaged[1..]), Reach::Refused(5), "{case:?}");
+            assert_eq!(ask(&[]), Answer::Refused(5), "{case:?}");
+            assert_eq!(ask(&unopened), Answer::Refused(5), "{case:?}");
+            assert_eq!(ask(&damaged[1..]), Answer::Refused(5), "{case:?}");
             let short = &damaged[..damaged.len() - 1];
-            assert_eq!(ask(short), Reach::Refused(5), "{case:?}");
-            assert_eq!(ask(&damaged), Reach::Refused(6), "{case:?}");
+            assert_eq!(ask(short), Answer::Refused(5), "{case:?}");
+            assert_eq!(ask(&damaged), Answer::Refused(6), "{case:?}");
             let answer = match ((u, v), (first, last)) {
-                ((0, 1), (1, 6)) => Reach::Yes,
-                ((0, 1), _) => Reach::Refused(9),
-                ((1, 1), _) => Reach::Refused(8),
-                _ => Reach::Refused(7),
+                ((0, 1), (1, 6)) => Answer::Yes,
+                ((0, 1), _) => Answer::Refused(9),
+                ((1, 1), _) => Answer::Refused(8),
+                _ => Answer::Refused(7),
             };
             assert_eq!(ask(&good), answer, "{case:?}");
         }
@@ -400,23 +401,27 @@ fn edges_of_the_window() {
         let table = words::table(opening, &cases::full_cells(opening));
         let ask = |first, last| reach(&table, 1, 0, first, last);
         for tick in 1..=end {
-            assert_eq!(ask(tick, tick), Reach::No, "{opening:?} {tick}");
-            let departs = Reach::answered(tick <= ticks);
+            assert_eq!(ask(tick, tick), Answer::No, "{opening:?} {tick}");
+            let departs = answered(tick <= ticks);
             assert_eq!(ask(tick, end), departs, "{opening:?} {tick}");
-            let arrives = Reach::answered(tick > carry);
+            let arrives = answered(tick > carry);
             assert_eq!(ask(1, tick), arrives, "{opening:?} {tick}");
-            assert_eq!(ask(0, tick), Reach::Refused(9), "{opening:?} {tick}");
-            assert_eq!(ask(tick, end + 1), Reach::Refused(9), "{opening:?} {tick}");
-            assert_eq!(ask(tick, tick - 1), Reach::Refused(9), "{opening:?} {tick}");
+            assert_eq!(ask(0, tick), Answer::Refused(9), "{opening:?} {tick}");
+            assert_eq!(ask(tick, end + 1), Answer::Refused(9), "{opening:?} {tick}");
+            assert_eq!(
+                ask(tick, tick - 1),
+                Answer::Refused(9),
+                "{opening:?} {tick}"
+            );
         }
         for tick in 1..=ticks {
             let alone = ask(tick, tick + carry);
-            assert_eq!(alone, Reach::Yes, "{opening:?} {tick}");
+            assert_eq!(alone, Answer::Yes, "{opening:?} {tick}");
             let short = ask(tick, tick + carry - 1);
-            assert_eq!(short, Reach::No, "{opening:?} {tick}");
+            assert_eq!(short, Answer::No, "{opening:?} {tick}");
         }
         let beyond = ask(end + 1, end + 1);
-        assert_eq!(beyond, Reach::Refused(9), "{opening:?}");
+        assert_eq!(beyond, Answer::Refused(9), "{opening:?}");
     }
 }
 
@@ -432,7 +437,7 @@ fn one_animal_is_refused() {
         for other in [1, 2, 255, 256, u32::MAX] {
             for (u, v) in [(0, other), (other, 0), (other, other)] {
                 let answer = reach(&table, u, v, 1, ticks);
-                assert_eq!(answer, Reach::Refused(7), "{opening:?} {u} {v}");
+                assert_eq!(answer, Answer::Refused(7), "{opening:?} {u} {v}");
             }
         }
     }
@@ -476,7 +481,7 @@ fn every_window_of_every_cell_length() {
                     let answer = reach(&table, 0, 1, first, last);
                     let fits = rule::fits(&cells[1], Interval::new(first, last));
                     let case = (opening, &cells[1], first, last);
-                    assert_eq!(answer, Reach::answered(fits), "{case:?}");
+                    assert_eq!(answer, answered(fits), "{case:?}");
                     seen.note(answer);
                 }
             }
@@ -588,7 +593,7 @@ fn one_animal_with_itself_has_no_row_even_when_counted() {
         words[start + 1] = words::interval_word(Interval::new(1, 1 + opening.carry));
         let question = cases::question(&mut random, opening);
         let answer = compare(&words, question, "counted row");
-        assert_eq!(answer, Reach::Refused(6), "{opening:?} {question:?}");
+        assert_eq!(answer, Answer::Refused(6), "{opening:?} {question:?}");
     }
 }
 
@@ -604,7 +609,7 @@ fn every_word_of_every_cell_length() {
             table[place] ^= 1 << bit;
             let (u, v, first, last) = cases::question(&mut random, opening);
             let answer = reach(&table, u, v, first, last);
-            assert_eq!(answer, Reach::Refused(6), "{opening:?} {place} {bit}");
+            assert_eq!(answer, Answer::Refused(6), "{opening:?} {place} {bit}");
             table[place] ^= 1 << bit;
         }
     }
@@ -641,7 +646,7 @@ fn nothing_but_random_words() {
         compare(&words, question, "any first word");
         words[0] = words::opening_word(opening);
         let answer = compare(&words, question, "an opening word");
-        assert_eq!(answer, Reach::Refused(6));
+        assert_eq!(answer, Answer::Refused(6));
     }
 }
 
@@ -660,7 +665,7 @@ fn wrong_lengths_are_refused() {
         for length in [0, 1, anywhere, right - 1, right + 1, longer] {
             let (u, v, first, last) = cases::question(&mut random, opening);
             let answer = reach(&words[..length], u, v, first, last);
-            assert_eq!(answer, Reach::Refused(5), "{opening:?} {length}");
+            assert_eq!(answer, Answer::Refused(5), "{opening:?} {length}");
         }
     }
 }
@@ -685,10 +690,10 @@ fn every_opening_word_over_a_short_table() {
 fn a_length_beyond_32_bits() {
     let opening = Opening::new(4, 6, 1);
     let table = words::table(opening, &cases::full_cells(opening));
-    assert_eq!(reach(&table, 0, 1, 1, 7), Reach::Yes);
+    assert_eq!(reach(&table, 0, 1, 1, 7), Answer::Yes);
     let mut vast = Guarded::zero(Place::StartsAtGuard, table.len() + (1 << 32));
     vast[..table.len()].copy_from_slice(&table);
-    assert_eq!(reach(&vast, 0, 1, 1, 7), Reach::Refused(5));
+    assert_eq!(reach(&vast, 0, 1, 1, 7), Answer::Refused(5));
     same_words(&vast[..table.len()], &table, "vast");
 }
 
@@ -764,7 +769,7 @@ fn empty_slices_at_guards() {
     let questions = [(0, 1, 1, 1), (0, 0, 0, 0), (u32::MAX, 1, 9, 2)];
     for words in [&[][..], &[0x83FF_FFFF], &[0], &[0x8000_0000]] {
         let answers = compare_at_guards(words, &questions);
-        assert_eq!(answers, [Reach::Refused(5); 3], "{words:08X?}");
+        assert_eq!(answers, [Answer::Refused(5); 3], "{words:08X?}");
     }
 }
 
@@ -781,20 +786,20 @@ fn questions_on_the_largest_table() {
     let mut memory = vec![0; opening.table_words() + 1];
     let length = memory.len() - 1;
     let table = &mut memory[..length];
-    assert_eq!(ffi::open(table, 256, 1024, 256), Opened::Opened);
+    assert_eq!(herd::open(table, 256, 1024, 256), Opened::Opened);
     for (u, v, t) in listed {
-        assert!(matches!(ffi::add(table, u, v, t), Added::New(_)));
+        assert!(matches!(herd::add(table, u, v, t), Added::New(_)));
     }
     for ((u, v, first, last), answer) in [
-        ((3, 255, 1, 1025), Reach::Yes),
-        ((3, 255, 1, 1024), Reach::No),
-        ((3, 255, 2, 1280), Reach::No),
-        ((255, 0, 1024, 1280), Reach::Yes),
-        ((255, 0, 1025, 1280), Reach::No),
-        ((255, 254, 1, 1280), Reach::No),
-        ((255, 0, 1024, 1281), Reach::Refused(9)),
-        ((255, 255, 0, 1281), Reach::Refused(8)),
-        ((256, 256, 0, 1281), Reach::Refused(7)),
+        ((3, 255, 1, 1025), Answer::Yes),
+        ((3, 255, 1, 1024), Answer::No),
+        ((3, 255, 2, 1280), Answer::No),
+        ((255, 0, 1024, 1280), Answer::Yes),
+        ((255, 0, 1025, 1280), Answer::No),
+        ((255, 254, 1, 1280), Answer::No),
+        ((255, 0, 1024, 1281), Answer::Refused(9)),
+        ((255, 255, 0, 1281), Answer::Refused(8)),
+        ((256, 256, 0, 1281), Answer::Refused(7)),
     ] {
         assert_eq!(reach(table, u, v, first, last), answer, "{u} {v} {first}");
     }
@@ -802,10 +807,10 @@ fn questions_on_the_largest_table() {
     let cells = model::minimal_intervals(opening, &contacts);
     same_table(table, opening, &cells, "asked");
     table[length - 1] = 1;
-    assert_eq!(reach(table, 256, 256, 0, 0), Reach::Refused(6));
+    assert_eq!(reach(table, 256, 256, 0, 0), Answer::Refused(6));
     assert_eq!(
         reach(&table[..length - 1], 3, 255, 1, 1025),
-        Reach::Refused(5)
+        Answer::Refused(5)
     );
-    assert_eq!(reach(&memory, 3, 255, 1, 1025), Reach::Refused(5));
+    assert_eq!(reach(&memory, 3, 255, 1, 1025), Answer::Refused(5));
 }

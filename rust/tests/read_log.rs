@@ -1,13 +1,13 @@
 //! Reading logs, against the plain search over contacts and against document 01's text.
 
-use herd::compare::{same_table, same_words};
-use herd::ffi::log::{read_log, write_log, Read, Written};
-use herd::ffi::{self, Added, Opened};
-use herd::guard::{Guarded, Place};
-use herd::model::{self, Contacts};
-use herd::random::Random;
-use herd::words::{self, Cells, Contact, Interval, Opening};
-use herd::{calls, cases};
+use herd::testing::compare::{same_table, same_words};
+use herd::testing::guard::{Guarded, Place};
+use herd::testing::model::{self, Contacts};
+use herd::testing::random::Random;
+use herd::testing::words::{self, Cells, Contact, Interval, Opening};
+use herd::testing::{calls, cases};
+use herd::{read_log, write_log, Read, Written};
+use herd::{Added, Opened};
 use std::collections::BTreeMap;
 use std::fmt::Debug;
 
@@ -396,10 +396,10 @@ fn reading_opens_and_adds_all() {
         let (n, ticks, carry) = (opening.animals, opening.ticks, opening.carry);
         let contacts = cases::log_contacts(&mut random, opening, 30);
         let mut added = random.words(opening.table_words());
-        assert_eq!(ffi::open(&mut added, n, ticks, carry), Opened::Opened);
+        assert_eq!(herd::open(&mut added, n, ticks, carry), Opened::Opened);
         let mut new = 0;
         for contact in &contacts {
-            match ffi::add(&mut added, contact.from, contact.to, contact.tick) {
+            match herd::add(&mut added, contact.from, contact.to, contact.tick) {
                 Added::New(_) => new += 1,
                 Added::Known(_) => (),
                 Added::Refused(number) => panic!("{opening:?} {contact:?}: {number}"),

@@ -1,9 +1,9 @@
 //! The printing program, on the pairs of `sheets/` and on made inputs.
 
-use herd::cases;
-use herd::random::Random;
-use herd::sheet::{self, MOST_ANIMALS, MOST_BYTES, MOST_TICKS};
-use herd::words::{self, Opening};
+use herd::testing::cases;
+use herd::testing::random::Random;
+use herd::testing::sheet::{self, MOST_ANIMALS, MOST_BYTES, MOST_TICKS};
+use herd::testing::words::{self, Opening};
 use std::collections::{BTreeMap, BTreeSet};
 use std::fs::{self, File};
 use std::io::{ErrorKind, Write};

@@ -1,12 +1,12 @@
 //! Writing logs, against the set of contacts and against document 01's text.
 
-use herd::compare::same_words;
-use herd::ffi::log::{write_log, Written};
-use herd::guard::{Guarded, Place, PLACES};
-use herd::model::{self, Contacts};
-use herd::random::Random;
-use herd::words::{self, Contact, Opening};
-use herd::{calls, cases};
+use herd::testing::compare::same_words;
+use herd::testing::guard::{Guarded, Place, PLACES};
+use herd::testing::model::{self, Contacts};
+use herd::testing::random::Random;
+use herd::testing::words::{self, Contact, Opening};
+use herd::testing::{calls, cases};
+use herd::{write_log, Written};
 
 /// Writes into buffers of every length about the log's own, and compares every word.
 fn compare(random: &mut Random, table: &[u32], log: &[u32], case: &str) {

@@ -4,9 +4,9 @@ use crate::adds;
 use crate::clock::timed;
 use crate::ticks;
 use crate::workloads::Workload;
-use herd::compare::same_words;
-use herd::ffi::{self, Added};
-use herd::words::{Contact, Opening};
+use herd::testing::compare::same_words;
+use herd::testing::words::{Contact, Opening};
+use herd::Added;
 use std::time::{Duration, Instant};
 
 /// The adds of a run last this long together.
@@ -97,7 +97,7 @@ impl Adding {
         let (u, v, t) = (contact.from, contact.to, contact.tick);
         check(&mut self.table);
         let before = check(&mut self.table);
-        let (answer, whole) = timed(|| ffi::add(&mut self.table, u, v, t));
+        let (answer, whole) = timed(|| herd::add(&mut self.table, u, v, t));
         let after = check(&mut self.table);
         let check = (before + after).as_secs_f64() / 2.0;
         self.checks.push(check);
@@ -133,7 +133,7 @@ impl Adding {
 
 /// An add that reads the whole table and is refused for its tick.
 fn check(table: &mut [u32]) -> Duration {
-    let (answer, lasted) = timed(|| ffi::add(table, 0, 1, 0));
+    let (answer, lasted) = timed(|| herd::add(table, 0, 1, 0));
     assert_eq!(answer, Added::Refused(9));
     lasted
 }

@@ -1,8 +1,9 @@
 //! Document 01's add rule on the words of a table in safe Rust, without a check of the table.
 
 use crate::rows;
-use herd::ffi::Added;
-use herd::words::{self, Contact, Interval, Opening};
+use herd::testing::calls::accepted;
+use herd::testing::words::{self, Contact, Interval, Opening};
+use herd::Added;
 
 /// An animal and the earliest arrival at it.
 type Reached = (usize, u32);
@@ -35,7 +36,7 @@ pub fn add(opening: Opening, table: &mut [u32], contact: Contact) -> Added {
             changed += enter_line(cells, size, x, departure, reached);
         }
     }
-    Added::accepted(known, changed)
+    accepted(known, changed)
 }
 
 /// Whether the table holds the contact.

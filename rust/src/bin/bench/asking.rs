@@ -2,12 +2,12 @@
 
 use crate::clock::{race, timed};
 use crate::workloads::{Workload, SEED};
-use herd::cases;
-use herd::ffi::chain::{chain, Chain};
-use herd::ffi::log::{write_log, Written};
-use herd::ffi::reach::{reach, Reach};
-use herd::random::Random;
-use herd::words::Contact;
+use herd::testing::cases;
+use herd::testing::random::Random;
+use herd::testing::words::Contact;
+use herd::{chain, Chain};
+use herd::{reach, Answer};
+use herd::{write_log, Written};
 use std::hint::black_box;
 use std::time::Duration;
 
@@ -73,7 +73,7 @@ impl Asking {
     pub fn reach(&mut self) -> Duration {
         let (u, v) = (self.pair.from, self.pair.to);
         let (answer, lasted) = timed(|| reach(&self.table, u, v, 1, self.last));
-        assert!(!matches!(answer, Reach::Refused(_)), "{answer:?}");
+        assert!(!matches!(answer, Answer::Refused(_)), "{answer:?}");
         lasted
     }
 

@@ -1,7 +1,7 @@
 //! The closure of document 000: an ordered map of intervals for each pair of animals, and Algorithm 1.
 
 use crate::rows;
-use herd::words::{Cells, Contact, Interval, Opening};
+use herd::testing::words::{Cells, Contact, Interval, Opening};
 use std::borrow::Borrow;
 use std::cmp::Ordering;
 use std::collections::BTreeMap;

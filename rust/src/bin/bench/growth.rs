@@ -6,7 +6,7 @@ use crate::clock::race;
 use crate::loading::Loading;
 use crate::page;
 use crate::workloads::Workload;
-use herd::words::Opening;
+use herd::testing::words::Opening;
 
 /// The sizes of a growth, each twice the size before.
 const SIZES: usize = 4;

@@ -5,9 +5,9 @@ use crate::clock::{race, timed};
 use crate::closure::Closure;
 use crate::ticks;
 use crate::workloads::Workload;
-use herd::compare::{same_table, same_words};
-use herd::ffi::log::{read_log, Read};
-use herd::words::Opening;
+use herd::testing::compare::{same_table, same_words};
+use herd::testing::words::Opening;
+use herd::{read_log, Read};
 use std::hint::black_box;
 use std::time::Duration;
 

@@ -1,6 +1,6 @@
 //! The words of a table and of a log in safe Rust, without a check of either.
 
-use herd::words::{self, Contact, Opening};
+use herd::testing::words::{self, Contact, Opening};
 
 /// The opening of a log.
 pub fn log_opening(log: &[u32]) -> Opening {

@@ -1,8 +1,8 @@
 //! The logs that the bench loads.
 
-use herd::cases;
-use herd::random::Random;
-use herd::words::{self, Contact, Opening};
+use herd::testing::cases;
+use herd::testing::random::Random;
+use herd::testing::words::{self, Contact, Opening};
 
 /// The seed of every log and question.
 pub const SEED: u64 = 8;

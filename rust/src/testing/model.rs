@@ -1,6 +1,6 @@
 //! The plain search over contacts: what a table over a set of contacts must hold, without cells or an add rule.
 
-use crate::words::{self, Cells, Contact, Interval, Opening};
+use crate::testing::words::{self, Cells, Contact, Interval, Opening};
 use std::collections::BTreeSet;
 use std::ops::RangeInclusive;
 

@@ -1,8 +1,8 @@
 //! What document 01 says that the printing program writes for any bytes.
 
-use crate::check;
-use crate::model::{self, Contacts};
-use crate::words::{self, Interval, Opening};
+use crate::testing::check;
+use crate::testing::model::{self, Contacts};
+use crate::testing::words::{self, Interval, Opening};
 
 /// The most bytes that the program takes.
 pub const MOST_BYTES: usize = 16_384;

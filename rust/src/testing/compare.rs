@@ -1,6 +1,6 @@
 //! Comparing words found with words expected.
 
-use crate::words::{self, Cells, Opening};
+use crate::testing::words::{self, Cells, Opening};
 use std::fmt::Debug;
 
 /// Fails at the first word that differs, and shows the case.

@@ -1,13 +1,10 @@
 //! What document 01 says of each call on any lent words: the answer, and the words afterwards.
 
-use crate::check;
-use crate::ffi::chain::Chain;
-use crate::ffi::log::{Read, Written};
-use crate::ffi::reach::Reach;
-use crate::ffi::{Added, Opened};
-use crate::model::{self, Contacts};
-use crate::rule;
-use crate::words::{self, Contact, Opening};
+use crate::testing::check;
+use crate::testing::model::{self, Contacts};
+use crate::testing::rule;
+use crate::testing::words::{self, Contact, Opening};
+use crate::{Added, Answer, Chain, Opened, Read, Written};
 
 /// Opening over these words.
 pub fn open(table: &[u32], animals: u32, ticks: u32, carry: u32) -> (Opened, Vec<u32>) {
@@ -76,13 +73,13 @@ pub fn write_log(table: &[u32], buffer: &[u32]) -> (Written, Vec<u32>) {
 }
 
 /// The reach question on the table of these words, which stay as they are.
-pub fn reach(table: &[u32], u: u32, v: u32, first: u32, last: u32) -> Reach {
+pub fn reach(table: &[u32], u: u32, v: u32, first: u32, last: u32) -> Answer {
     let checked = check::open_table(table).and_then(|(opening, cells)| {
         check::animals(opening, u, v)?;
         let window = check::window(opening, first, last)?;
         Ok(rule::fits(&cells[opening.pair(u, v)], window))
     });
-    checked.map_or_else(Reach::Refused, Reach::answered)
+    checked.map_or_else(Answer::Refused, answered)
 }
 
 /// The chain question on the table of these words, which stay as they are, and the buffer's words afterwards.
@@ -117,4 +114,22 @@ pub fn chained(found: Result<Option<Vec<Contact>>, u32>, buffer: &[u32]) -> (Cha
         }
     };
     (answer, after)
+}
+
+/// New or known, with the number of cells changed.
+pub fn accepted(known: bool, cells: u32) -> Added {
+    if known {
+        Added::Known(cells)
+    } else {
+        Added::New(cells)
+    }
+}
+
+/// Yes where it is so, else no.
+pub fn answered(so: bool) -> Answer {
+    if so {
+        Answer::Yes
+    } else {
+        Answer::No
+    }
 }

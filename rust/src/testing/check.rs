@@ -1,6 +1,6 @@
 //! Document 01's checks of an open table, of a log and of a call's numbers, each with its refusal.
 
-use crate::words::{self, Cells, Contact, Interval, Opening};
+use crate::testing::words::{self, Cells, Contact, Interval, Opening};
 
 /// The opening and the cells of a table, or refusal 5 or 6.
 pub fn open_table(table: &[u32]) -> Result<(Opening, Cells), u32> {

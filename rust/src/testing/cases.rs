@@ -1,7 +1,7 @@
 //! Random openings, contacts, questions, logs and well-formed cells.
 
-use crate::random::Random;
-use crate::words::{Cells, Contact, Interval, Opening};
+use crate::testing::random::Random;
+use crate::testing::words::{Cells, Contact, Interval, Opening};
 
 /// A small opening, with a carry time above the ticks now and then.
 pub fn opening(random: &mut Random) -> Opening {

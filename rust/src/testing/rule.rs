@@ -1,7 +1,8 @@
 //! Document 01's add rule, its fit of a window and its chain on cells, word for word, for any well-formed table.
 
-use crate::ffi::Added;
-use crate::words::{Cells, Contact, Interval, Opening};
+use crate::testing::calls::accepted;
+use crate::testing::words::{Cells, Contact, Interval, Opening};
+use crate::Added;
 use std::cmp::Reverse;
 
 /// The cells after the contact is added to `before`, and the answer.
@@ -31,7 +32,7 @@ pub fn add(opening: Opening, before: &Cells, contact: Contact) -> (Cells, Added)
         }
     }
     let known = before[opening.pair(u, v)].contains(&contact.interval(opening.carry));
-    (after, Added::accepted(known, changed))
+    (after, accepted(known, changed))
 }
 
 /// Whether an interval of the cell fits the window.

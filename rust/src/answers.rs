@@ -1,0 +1,184 @@
+//! One answer type for each kind of answer, and how the engine's replies say it.
+
+/// The answer of [`open`](crate::open).
+#[derive(Clone, Copy, Debug, PartialEq, Eq)]
+pub enum Opened {
+    /// The table is open and every cell is empty.
+    Opened,
+    /// The refusal's number; the table keeps its words.
+    Refused(u32),
+}
+
+/// The answer of [`add`](crate::add).
+#[derive(Clone, Copy, Debug, PartialEq, Eq)]
+pub enum Added {
+    /// The table did not hold the contact before and holds it now; so many cells changed.
+    New(u32),
+    /// The table held the contact before; so many cells changed, none where adds built the table.
+    Known(u32),
+    /// The refusal's number; the table keeps its words.
+    Refused(u32),
+}
+
+/// The answer of [`read_log`](crate::read_log).
+#[derive(Clone, Copy, Debug, PartialEq, Eq)]
+pub enum Read {
+    /// The log has so many different contacts, and the table holds these and no others.
+    Contacts(u32),
+    /// The refusal's number; the table keeps its words.
+    Refused(u32),
+}
+
+/// The answer of [`write_log`](crate::write_log).
+#[derive(Clone, Copy, Debug, PartialEq, Eq)]
+pub enum Written {
+    /// The log stands in so many words at the buffer's start; words behind it keep theirs.
+    Written(u32),
+    /// The refusal's number; the buffer keeps its words.
+    Refused(u32),
+}
+
+/// The answer of a question for yes or no: [`reach`](crate::reach), [`connected`](crate::connected) and
+/// [`claimed`](crate::claimed).
+#[derive(Clone, Copy, Debug, PartialEq, Eq)]
+pub enum Answer {
+    /// It is so.
+    Yes,
+    /// It is not so.
+    No,
+    /// The refusal's number; nothing is said about the question.
+    Refused(u32),
+}
+
+/// The answer of a question for a tick: [`earliest`](crate::earliest) and [`latest`](crate::latest).
+#[derive(Clone, Copy, Debug, PartialEq, Eq)]
+pub enum Tick {
+    /// The tick asked for.
+    At(u32),
+    /// There is none, since no such journey is.
+    Nothing,
+    /// The refusal's number; nothing is said about the question.
+    Refused(u32),
+}
+
+/// The answer of [`reached`](crate::reached).
+#[derive(Clone, Copy, Debug, PartialEq, Eq)]
+pub enum Reached {
+    /// So many animals are reached, and the set's words stand at the front of the words lent for it.
+    Animals(u32),
+    /// The refusal's number; the words lent for the set stay as they are.
+    Refused(u32),
+}
+
+/// The answer of [`chain`](crate::chain).
+#[derive(Clone, Copy, Debug, PartialEq, Eq)]
+pub enum Chain {
+    /// So many contacts of one journey stand at the buffer's start; words behind them keep theirs.
+    Contacts(u32),
+    /// No journey is told; the buffer keeps its words.
+    NoJourney,
+    /// The refusal's number; the buffer keeps its words.
+    Refused(u32),
+}
+
+impl Opened {
+    /// What the reply says.
+    pub(crate) fn of(reply: u64) -> Opened {
+        match parts(reply) {
+            (0, number) => Opened::Refused(number),
+            (1, 0) => Opened::Opened,
+            _ => no_answer(reply),
+        }
+    }
+}
+
+impl Added {
+    /// What the reply says.
+    pub(crate) fn of(reply: u64) -> Added {
+        match parts(reply) {
+            (0, number) => Added::Refused(number),
+            (1, cells) => Added::New(cells),
+            (2, cells) => Added::Known(cells),
+            _ => no_answer(reply),
+        }
+    }
+}
+
+impl Read {
+    /// What the reply says.
+    pub(crate) fn of(reply: u64) -> Read {
+        match parts(reply) {
+            (0, number) => Read::Refused(number),
+            (1, contacts) => Read::Contacts(contacts),
+            _ => no_answer(reply),
+        }
+    }
+}
+
+impl Written {
+    /// What the reply says.
+    pub(crate) fn of(reply: u64) -> Written {
+        match parts(reply) {
+            (0, number) => Written::Refused(number),
+            (1, words) => Written::Written(words),
+            _ => no_answer(reply),
+        }
+    }
+}
+
+impl Answer {
+    /// What the reply says.
+    pub(crate) fn of(reply: u64) -> Answer {
+        match parts(reply) {
+            (0, number) => Answer::Refused(number),
+            (1, 0) => Answer::Yes,
+            (2, 0) => Answer::No,
+            _ => no_answer(reply),
+        }
+    }
+}
+
+impl Tick {
+    /// What the reply says.
+    pub(crate) fn of(reply: u64) -> Tick {
+        match parts(reply) {
+            (0, number) => Tick::Refused(number),
+            (1, tick) => Tick::At(tick),
+            (2, 0) => Tick::Nothing,
+            _ => no_answer(reply),
+        }
+    }
+}
+
+impl Reached {
+    /// What the reply says.
+    pub(crate) fn of(reply: u64) -> Reached {
+        match parts(reply) {
+            (0, number) => Reached::Refused(number),
+            (1, animals) => Reached::Animals(animals),
+            _ => no_answer(reply),
+        }
+    }
+}
+
+impl Chain {
+    /// What the reply says.
+    pub(crate) fn of(reply: u64) -> Chain {
+        match parts(reply) {
+            (0, number) => Chain::Refused(number),
+            (1, contacts) => Chain::Contacts(contacts),
+            (2, 0) => Chain::NoJourney,
+            _ => no_answer(reply),
+        }
+    }
+}
+
+/// Which answer a reply is (its upper half), and the answer's number (its lower half).
+fn parts(reply: u64) -> (u32, u32) {
+    ((reply >> 32) as u32, reply as u32)
+}
+
+/// The engine gave a reply that its call does not have.
+fn no_answer(reply: u64) -> ! {
+    panic!("no answer of this call has the reply {reply:#x}")
+}

@@ -1,0 +1,46 @@
+//! Questions about windows and ticks. A journey fits a window when it departs at or after its first tick and arrives by
+//! its last.
+
+use crate::exports::{herd_connected, herd_earliest, herd_latest, herd_reach, herd_reached};
+use crate::{Answer, Reached, Tick};
+
+/// Whether a journey from `u` to `v` departs at or after `first` and arrives by `last`.
+#[inline]
+pub fn reach(table: &[u32], u: u32, v: u32, first: u32, last: u32) -> Answer {
+    // SAFETY: pointer and length are those of one lent slice, and the engine is proved to stay inside.
+    Answer::of(unsafe { herd_reach(table.as_ptr(), table.len(), u, v, first, last) })
+}
+
+/// The earliest arrival of a journey from `u` to `v` that departs at or after `first`.
+#[inline]
+pub fn earliest(table: &[u32], u: u32, v: u32, first: u32) -> Tick {
+    // SAFETY: pointer and length are those of one lent slice, and the engine is proved to stay inside.
+    Tick::of(unsafe { herd_earliest(table.as_ptr(), table.len(), u, v, first) })
+}
+
+/// The latest departure of a journey from `u` to `v` that arrives by `last`.
+#[inline]
+pub fn latest(table: &[u32], u: u32, v: u32, last: u32) -> Tick {
+    // SAFETY: pointer and length are those of one lent slice, and the engine is proved to stay inside.
+    Tick::of(unsafe { herd_latest(table.as_ptr(), table.len(), u, v, last) })
+}
+
+/// Whether each animal can have reached every other one by a journey that departs at or after `first` and arrives by
+/// `last`. One animal alone is connected.
+#[inline]
+pub fn connected(table: &[u32], first: u32, last: u32) -> Answer {
+    // SAFETY: pointer and length are those of one lent slice, and the engine is proved to stay inside.
+    Answer::of(unsafe { herd_connected(table.as_ptr(), table.len(), first, last) })
+}
+
+/// The animals, without `u`, to which a journey from `u` departs at or after `first` and arrives by `last`.
+///
+/// The set is eight words: animal i is bit i mod 32 of word i/32 rounded down. They are written to the front of `set`, as
+/// many as it has room for; words behind the eighth stay as they are. The answer counts all animals reached.
+#[inline]
+pub fn reached(table: &[u32], u: u32, first: u32, last: u32, set: &mut [u32]) -> Reached {
+    let (words, room) = (table.len(), set.len());
+    let (table, set) = (table.as_ptr(), set.as_mut_ptr());
+    // SAFETY: pointers and lengths are those of two lent slices, and the engine is proved to stay inside.
+    Reached::of(unsafe { herd_reached(table, words, u, first, last, set, room) })
+}
