@@ -1,15 +1,19 @@
 //! What the comparison tests and the bench need; no part of the product.
 //!
-//! `model` says by a plain search over contacts what a table must hold; `rule`, `check` and `calls` say it from the text of
-//! document 01, for tables that no adds built; `sheet` says what the printing program writes.
+//! `suite` compares calls with what they must come to. `model` says by a plain search over contacts what a table must hold
+//! and answer; `rule`, `check` and `calls` say it from the text of document 01, for tables that no adds built. `sheet` says
+//! what the printing program writes. `words` has the layout of words, `cases` and `random` make cases, `guard` has memory
+//! between pages that cannot be read or written.
 
 pub mod calls;
 pub mod cases;
 pub mod check;
 pub mod compare;
+pub mod contents;
 pub mod guard;
 pub mod model;
 pub mod random;
 pub mod rule;
 pub mod sheet;
+pub mod suite;
 pub mod words;

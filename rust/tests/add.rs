@@ -1,106 +1,85 @@
-//! Adding, on tables that adds built, against the plain search.
+//! Adding one contact after another, against the plain search.
 
 use herd::testing::calls::accepted;
 use herd::testing::cases;
 use herd::testing::compare::same_words;
 use herd::testing::model::{self, Contacts};
 use herd::testing::random::Random;
-use herd::testing::words::{self, Cells, Contact, Opening};
+use herd::testing::suite::call::Call;
+use herd::testing::suite::draws;
+use herd::testing::suite::lent::Lent;
+use herd::testing::suite::reply::{Export, Reply};
+use herd::testing::suite::Suite;
+use herd::testing::words::{self, Contact, Opening};
 use herd::{Added, Opened};
 
-/// A table of the engine's beside the set of contacts that it was given.
+/// A table that grows by adds, and the suite that compares them.
 struct Office {
-    opening: Opening,
-    table: Vec<u32>,
-    contacts: Contacts,
-    intervals: Cells,
+    lent: Lent,
+    suite: Suite,
 }
 
 impl Office {
     /// Opens a table over words of no meaning.
     fn new(random: &mut Random, opening: Opening) -> Office {
-        let mut table = random.words(opening.table_words());
-        let answer = herd::open(&mut table, opening.animals, opening.ticks, opening.carry);
-        assert_eq!(answer, Opened::Opened, "{opening:?}");
-        let contacts = Contacts::new();
-        let intervals = model::minimal_intervals(opening, &contacts);
-        same_words(&table, &words::table(opening, &intervals), opening);
         Office {
-            opening,
-            table,
-            contacts,
-            intervals,
+            lent: Lent::built(random, opening, &[]),
+            suite: Suite::default(),
         }
     }
 
-    /// Adds a legal contact, and compares the answer and every word with the plain search.
-    fn add(&mut self, contact: Contact) -> Added {
-        let new = self.contacts.insert(contact);
-        let intervals = model::minimal_intervals(self.opening, &self.contacts);
-        let changed = model::changed_pairs(&self.intervals, &intervals);
-        let expected = accepted(!new, changed);
-        let answer = herd::add(&mut self.table, contact.from, contact.to, contact.tick);
-        let case = (self.opening, contact, &self.contacts);
-        assert_eq!(answer, expected, "{case:?}");
-        same_words(&self.table, &words::table(self.opening, &intervals), case);
-        self.intervals = intervals;
-        answer
+    /// Makes the add on the table as the last one left it, and compares.
+    #[track_caller]
+    fn add(&mut self, u: u32, v: u32, t: u32) -> Reply {
+        let reply = self.suite.compare(&self.lent, &Call::Add { u, v, t });
+        if matches!(reply, Reply::New(_)) {
+            let mut contacts: Contacts = self.lent.held.iter().copied().collect();
+            contacts.insert(Contact::new(u, v, t));
+            self.lent = Lent::fresh(self.lent.opening, contacts);
+        }
+        reply
     }
-
-    /// Makes a call that is refused with this number, and compares every word.
-    fn refuse(&mut self, (u, v, t): (u32, u32, u32), number: u32) {
-        let answer = herd::add(&mut self.table, u, v, t);
-        let case = (self.opening, u, v, t);
-        assert_eq!(answer, Added::Refused(number), "{case:?}");
-        same_words(
-            &self.table,
-            &words::table(self.opening, &self.intervals),
-            case,
-        );
-    }
-}
-
-/// The refusal of a call on an open table with this opening, if any.
-fn refusal(opening: Opening, u: u32, v: u32, t: u32) -> Option<u32> {
-    let animals = [u, v].iter().any(|&animal| animal >= opening.animals);
-    let checks = [(animals, 7), (u == v, 8), (t == 0 || t > opening.ticks, 9)];
-    checks.iter().find(|check| check.0).map(|check| check.1)
 }
 
 #[test]
 fn contacts_in_any_order_with_repeats_and_refused_calls() {
     let mut random = Random::new(301);
     let (mut joined, mut known, mut refused) = (0, 0, 0);
-    for _ in 0..8_000 {
+    for _ in 0..12_000 {
         let opening = cases::opening(&mut random);
         let mut office = Office::new(&mut random, opening);
         for _ in 0..random.below(36) {
             let draw = random.below(5);
-            let (u, v, t) = if draw == 0 || opening.animals == 1 {
-                cases::numbers(&mut random, opening)
-            } else {
-                let loaded: Vec<Contact> = office.contacts.iter().copied().collect();
-                let repeated = draw == 1 && !loaded.is_empty();
-                let contact = if repeated {
-                    random.one_of(&loaded)
-                } else {
-                    cases::contact(&mut random, opening)
-                };
-                (contact.from, contact.to, contact.tick)
-            };
-            if let Some(number) = refusal(opening, u, v, t) {
-                office.refuse((u, v, t), number);
-                refused += 1;
-            } else {
-                match office.add(Contact::new(u, v, t)) {
-                    Added::New(cells) => joined += u32::from(cells > 1),
-                    _ => known += 1,
+            let call = match draw {
+                1 if !office.lent.held.is_empty() => {
+                    let contact = random.one_of(&office.lent.held);
+                    (contact.from, contact.to, contact.tick)
                 }
+                0..=1 => numbers(&mut random, opening),
+                _ if opening.animals == 1 => numbers(&mut random, opening),
+                _ => {
+                    let contact = cases::contact(&mut random, opening);
+                    (contact.from, contact.to, contact.tick)
+                }
+            };
+            match office.add(call.0, call.1, call.2) {
+                Reply::New(cells) => joined += u32::from(cells > 1),
+                Reply::Known(_) => known += 1,
+                _ => refused += 1,
             }
         }
     }
-    let enough = joined > 10_000 && known > 15_000 && refused > 15_000;
+    let enough = joined > 15_000 && known > 20_000 && refused > 15_000;
     assert!(enough, "{joined} {known} {refused}");
+}
+
+/// Three numbers that may or may not be a legal contact.
+fn numbers(random: &mut Random, opening: Opening) -> (u32, u32, u32) {
+    let (u, v) = (
+        draws::animal(random, opening),
+        draws::animal(random, opening),
+    );
+    (u, v, draws::tick(random, opening.ticks))
 }
 
 #[test]
@@ -145,27 +124,22 @@ fn every_contact_more_on_every_set_of_small_tables() {
 #[test]
 fn two_loading_orders_leave_equal_tables() {
     let mut random = Random::new(302);
+    let mut accepted = 0;
     for _ in 0..400 {
         let opening = cases::opening_with_pairs(&mut random);
         let (n, ticks, carry) = (opening.animals, opening.ticks, opening.carry);
-        let mut calls: Vec<_> = (0..80)
-            .map(|_| cases::numbers(&mut random, opening))
-            .collect();
+        let mut calls: Vec<_> = (0..80).map(|_| numbers(&mut random, opening)).collect();
+        let is_legal =
+            |&(u, v, t): &(u32, u32, u32)| u < n && v < n && u != v && (1..=ticks).contains(&t);
         let mut tables = Vec::new();
         for _ in 0..2 {
             let mut table = random.words(opening.table_words());
             assert_eq!(herd::open(&mut table, n, ticks, carry), Opened::Opened);
-            for &(u, v, t) in &calls {
-                let answer = herd::add(&mut table, u, v, t);
-                let refused = match answer {
-                    Added::Refused(number) => Some(number),
-                    _ => None,
-                };
-                assert_eq!(
-                    refused,
-                    refusal(opening, u, v, t),
-                    "{opening:?} {u} {v} {t}"
-                );
+            for call in &calls {
+                let &(u, v, t) = call;
+                let refused = matches!(herd::add(&mut table, u, v, t), Added::Refused(_));
+                assert_eq!(refused, !is_legal(call), "{opening:?} {call:?}");
+                accepted += u32::from(!refused);
             }
             tables.push(table);
             random.shuffle(&mut calls);
@@ -173,12 +147,11 @@ fn two_loading_orders_leave_equal_tables() {
             calls.push(again);
         }
         same_words(&tables[0], &tables[1], opening);
-        let legal = calls
-            .iter()
-            .filter(|call| refusal(opening, call.0, call.1, call.2).is_none());
+        let legal = calls.iter().filter(|call| is_legal(call));
         let contacts = legal.map(|&(u, v, t)| Contact::new(u, v, t)).collect();
         same_words(&tables[0], &model::fresh_table(opening, &contacts), opening);
     }
+    assert!(accepted > 20_000, "{accepted}");
 }
 
 #[test]
@@ -202,136 +175,40 @@ fn a_row_for_every_tick() {
 }
 
 #[test]
-fn numbers_at_their_edges() {
-    let mut random = Random::new(303);
-    let sizes = [
-        (1, 1, 1),
-        (1, 12, 3),
-        (2, 1, 256),
-        (2, 1024, 256),
-        (3, 6, 2),
-        (7, 5, 1),
-        (256, 2, 1),
-    ];
-    let mut seen = [0; 10];
-    for (animals, ticks, carry) in sizes {
-        let opening = Opening::new(animals, ticks, carry);
-        let mut office = Office::new(&mut random, opening);
-        let numbers = |near: u32| {
-            let far = [
-                0,
-                1,
-                255,
-                256,
-                257,
-                1 << 10,
-                1 << 16,
-                1 << 18,
-                1 << 31,
-                u32::MAX,
-            ];
-            let mut numbers = far.to_vec();
-            numbers.extend([
-                near - 1,
-                near,
-                near + 1,
-                0u32.wrapping_sub(near),
-                near | 1 << 31,
-            ]);
-            numbers.sort();
-            numbers.dedup();
-            numbers
-        };
-        for u in numbers(animals) {
-            for v in numbers(animals) {
-                for t in numbers(ticks) {
-                    let asked = animals < 256 || random.once_in(20);
-                    match refusal(opening, u, v, t) {
-                        None => {
-                            office.add(Contact::new(u, v, t));
-                            seen[0] += 1;
-                        }
-                        Some(number) if asked => {
-                            office.refuse((u, v, t), number);
-                            seen[number as usize] += 1;
-                        }
-                        Some(_) => {}
-                    }
-                }
-            }
-        }
-    }
-    assert!(
-        seen[0] >= 50 && seen[7..].iter().all(|&times| times >= 50),
-        "{seen:?}"
-    );
-}
-
-#[test]
 fn last_tick_is_accepted_and_the_next_refused() {
     let mut random = Random::new(304);
     for _ in 0..300 {
         let opening = cases::opening_with_pairs(&mut random);
         let mut office = Office::new(&mut random, opening);
-        assert_eq!(office.add(Contact::new(0, 1, opening.ticks)), Added::New(1));
-        assert_eq!(
-            office.add(Contact::new(0, 1, opening.ticks)),
-            Added::Known(0)
-        );
-        office.refuse((0, 1, opening.ticks + 1), 9);
-        office.refuse((0, 1, 0), 9);
-    }
-}
-
-#[test]
-fn one_animal_takes_no_contact() {
-    let mut random = Random::new(305);
-    for ticks in 1..=12 {
-        let mut office = Office::new(&mut random, Opening::new(1, ticks, ticks));
-        for t in [0, 1, ticks, ticks + 1, u32::MAX] {
-            office.refuse((0, 0, t), 8);
-            for other in [1, 2, 255, 256, u32::MAX] {
-                office.refuse((0, other, t), 7);
-                office.refuse((other, 0, t), 7);
-                office.refuse((other, other, t), 7);
-            }
-        }
-    }
-}
-
-#[test]
-fn session_and_longer_carry_times_of_document_01() {
-    for (carry, cell) in [(1, 0x4000_1005), (2, 0x4000_1006), (3, 0x4000_0807)] {
-        let opening = Opening::new(4, 6, carry);
-        let mut office = Office::new(&mut Random::new(306), opening);
-        assert_eq!(office.add(Contact::new(1, 3, 4)), Added::New(1));
-        assert_eq!(office.add(Contact::new(0, 1, 1)), Added::New(2));
-        let joined = if carry < 3 { 2 } else { 1 };
-        assert_eq!(office.add(Contact::new(0, 1, 2)), Added::New(joined));
-        assert_eq!(office.add(Contact::new(0, 1, 1)), Added::Known(0));
-        let start = opening.cell_start(0, 3);
-        assert_eq!(office.table[start..start + 3], [0xC000_0001, cell, 0]);
+        assert_eq!(office.add(0, 1, opening.ticks), Reply::New(1));
+        assert_eq!(office.add(0, 1, opening.ticks), Reply::Known(0));
+        assert_eq!(office.add(0, 1, opening.ticks + 1), Reply::Refused(9));
+        assert_eq!(office.add(0, 1, 0), Reply::Refused(9));
     }
 }
 
 #[test]
 fn one_contact_displaces_many_intervals() {
     let mut random = Random::new(307);
+    let mut most = 0;
     for ticks in [5, 16, 64] {
         for carry in [1, 2, 4] {
             let opening = Opening::new(3, ticks, carry);
             let mut office = Office::new(&mut random, opening);
             for t in 1..=ticks {
-                office.add(Contact::new(0, 1, t));
+                office.add(0, 1, t);
             }
             for t in (carry + 1..=ticks).rev() {
-                office.add(Contact::new(1, 2, t));
+                office.add(1, 2, t);
             }
             for t in (1..=ticks).rev() {
-                office.add(Contact::new(0, 2, t));
+                office.add(0, 2, t);
             }
+            let new = |reply| matches!(reply, Reply::New(_));
+            most = most.max(office.suite.times(Export::Add, new));
         }
     }
+    assert!(most > 150, "{most}");
 }
 
 #[test]
@@ -349,17 +226,8 @@ fn wide_fields() {
     for (animals, ticks, carry) in sizes {
         let opening = Opening::new(animals, ticks, carry);
         let mut office = Office::new(&mut random, opening);
-        let mut met = random.between(0, animals - 1);
-        for _ in 0..40 {
-            let mut contact = cases::contact(&mut random, opening);
-            if random.once_in(2) && contact.to != met {
-                contact.from = met;
-            }
-            if random.once_in(8) {
-                contact.tick = random.one_of(&[1, ticks]);
-            }
-            met = contact.to;
-            office.add(contact);
+        for contact in cases::following_contacts(&mut random, opening, 40) {
+            office.add(contact.from, contact.to, contact.tick);
         }
     }
 }

@@ -1,27 +1,31 @@
-//! Tables with wrong words, against an independent check written from document 01.
+//! Every call on tables with wrong words or of a wrong length, against document 01's text.
 
-use herd::testing::compare::same_words;
+use herd::testing::cases;
 use herd::testing::random::Random;
+use herd::testing::suite::lent::Lent;
+use herd::testing::suite::reply::{Export, Reply};
+use herd::testing::suite::{draws, Suite};
 use herd::testing::words::{self, Cells, Interval, Opening};
-use herd::testing::{calls, cases};
-use herd::Added;
 use std::collections::BTreeMap;
+
+/// The refusals of calls on an open table.
+const REFUSALS: [u32; 7] = [5, 6, 7, 8, 9, 10, 15];
 
 /// A well-formed table with its cells.
 struct Good {
     opening: Opening,
     cells: Cells,
-    words: Vec<u32>,
+    lent: Lent,
 }
 
 impl Good {
     /// The well-formed table of these cells.
     fn new(opening: Opening, cells: Cells) -> Good {
-        let words = words::table(opening, &cells);
+        let lent = Lent::stored(opening, &cells);
         Good {
             opening,
             cells,
-            words,
+            lent,
         }
     }
 
@@ -49,6 +53,13 @@ impl Good {
         Some((start, row))
     }
 
+    /// The table with this word at the place.
+    fn with(&self, place: usize, word: u32) -> Lent {
+        let mut words = self.lent.words.clone();
+        words[place] = word;
+        self.lent.with(words)
+    }
+
     /// The count word's place of a random cell of one animal with itself.
     fn diagonal(&self, random: &mut Random) -> usize {
         let u = random.between(0, self.opening.animals - 1);
@@ -73,10 +84,10 @@ fn put(start: usize, row: usize, departure: u32, arrival: u32) -> Option<(usize,
 /// Wrong opening words.
 const REFUSED_5: [(&str, Damage); 5] = [
     ("opening, unnamed bit", |good, random| {
-        Some((0, good.words[0] | 1 << random.between(26, 29)))
+        Some((0, good.lent.words[0] | 1 << random.between(26, 29)))
     }),
     ("opening, another kind", |good, random| {
-        Some((0, other_kind(random, good.words[0])))
+        Some((0, other_kind(random, good.lent.words[0])))
     }),
     ("opening, one animal more", |good, _| {
         let o = good.opening;
@@ -103,19 +114,19 @@ const REFUSED_6: [(&str, Damage); 24] = [
     }),
     ("count, one more", |good, random| {
         let start = good.cell(random, 0, 1)?;
-        Some((start, good.words[start] + 1))
+        Some((start, good.lent.words[start] + 1))
     }),
     ("count, one less", |good, random| {
         let start = good.cell(random, 1, 0)?;
-        Some((start, good.words[start] - 1))
+        Some((start, good.lent.words[start] - 1))
     }),
     ("count, unnamed bit", |good, random| {
         let start = good.cell(random, 0, 0)?;
-        Some((start, good.words[start] | 1 << random.between(11, 29)))
+        Some((start, good.lent.words[start] | 1 << random.between(11, 29)))
     }),
     ("count, another kind", |good, random| {
         let start = good.cell(random, 0, 0)?;
-        Some((start, other_kind(random, good.words[start])))
+        Some((start, other_kind(random, good.lent.words[start])))
     }),
     ("count, zero", |good, random| {
         Some((good.cell(random, 0, 0)?, 0))
@@ -123,12 +134,12 @@ const REFUSED_6: [(&str, Damage); 24] = [
     ("row, unnamed bit", |good, random| {
         let (start, row) = good.row(random, 0, 0)?;
         let place = start + 1 + row;
-        Some((place, good.words[place] | 1 << random.between(22, 29)))
+        Some((place, good.lent.words[place] | 1 << random.between(22, 29)))
     }),
     ("row, another kind", |good, random| {
         let (start, row) = good.row(random, 0, 0)?;
         let place = start + 1 + row;
-        Some((place, other_kind(random, good.words[place])))
+        Some((place, other_kind(random, good.lent.words[place])))
     }),
     ("row, zero", |good, random| {
         let (start, row) = good.row(random, 0, 0)?;
@@ -214,190 +225,299 @@ const REFUSED_6: [(&str, Damage); 24] = [
     }),
 ];
 
-/// Adds to the words as they are: the answer and every word as document 01 has them.
-fn compare(words: &[u32], numbers: (u32, u32, u32), case: &str) -> Added {
-    let (u, v, t) = numbers;
-    let (expected, after) = calls::add(words, u, v, t);
-    let mut table = words.to_vec();
-    let answer = herd::add(&mut table, u, v, t);
-    assert_eq!(answer, expected, "{case}: {numbers:?} on {words:08X?}");
-    same_words(&table, &after, (case, numbers));
-    answer
+/// Drawn calls on open tables, of each kind in turn, and the suite that compares them.
+struct Turns {
+    random: Random,
+    suite: Suite,
+    turn: usize,
+}
+
+impl Turns {
+    /// Turns with this seed.
+    fn new(seed: u64) -> Turns {
+        Turns {
+            random: Random::new(seed),
+            suite: Suite::default(),
+            turn: 0,
+        }
+    }
+
+    /// Makes so many calls, each of the next kind.
+    #[track_caller]
+    fn take(&mut self, lent: &Lent, calls: usize) -> Vec<Reply> {
+        let mut replies = Vec::new();
+        for _ in 0..calls {
+            self.turn += 1;
+            let export = Export::ON_OPEN_TABLES[self.turn % Export::ON_OPEN_TABLES.len()];
+            let call = lent.draw(&mut self.random, export);
+            replies.push(self.suite.compare(lent, &call));
+        }
+        replies
+    }
+
+    /// Makes so many calls, each of the next kind, which are all refused with the number.
+    #[track_caller]
+    fn refuse(&mut self, lent: &Lent, calls: usize, number: u32, case: &str) {
+        for reply in self.take(lent, calls) {
+            assert_eq!(reply, Reply::Refused(number), "{case}: {:?}", lent.opening);
+        }
+    }
+}
+
+/// A small well-formed table that need not be a closure.
+fn drawn(random: &mut Random) -> Good {
+    let opening = cases::opening(random);
+    let cells = cases::cells(random, opening);
+    Good::new(opening, cells)
 }
 
 #[test]
 fn chosen_damage_is_refused() {
-    let mut random = Random::new(701);
+    let mut turns = Turns::new(701);
     let mut met = BTreeMap::new();
-    for _ in 0..8_000 {
-        let opening = cases::opening(&mut random);
-        let good = Good::new(opening, cases::cells(&mut random, opening));
+    for _ in 0..4_000 {
+        let good = drawn(&mut turns.random);
         for (damages, number) in [(&REFUSED_5[..], 5), (&REFUSED_6[..], 6)] {
             for (name, damage) in damages {
                 let times = met.entry(name).or_insert(0);
-                if let Some((place, word)) = damage(&good, &mut random) {
-                    let mut words = good.words.clone();
-                    words[place] = word;
-                    let numbers = cases::numbers(&mut random, opening);
-                    let answer = compare(&words, numbers, name);
-                    assert_eq!(
-                        answer,
-                        Added::Refused(number),
-                        "{name}: {opening:?} word {place}"
-                    );
+                if let Some((place, word)) = damage(&good, &mut turns.random) {
+                    let lent = good.with(place, word);
+                    turns.refuse(&lent, 2, number, name);
                     *times += 1;
                 }
             }
         }
     }
-    assert!(met.values().all(|&times| times > 500), "{met:?}");
+    assert!(met.values().all(|&times| times > 250), "{met:?}");
 }
 
 #[test]
 fn one_animal_with_itself_has_no_row_even_when_counted() {
-    let mut random = Random::new(702);
+    let mut turns = Turns::new(702);
     for _ in 0..2_000 {
-        let opening = cases::opening(&mut random);
-        let good = Good::new(opening, cases::cells(&mut random, opening));
-        let start = good.diagonal(&mut random);
-        let mut words = good.words.clone();
-        words[start] = words::count_word(1);
-        words[start + 1] = words::interval_word(Interval::new(1, 1 + opening.carry));
-        let numbers = cases::numbers(&mut random, opening);
-        assert_eq!(compare(&words, numbers, "counted row"), Added::Refused(6));
+        let good = drawn(&mut turns.random);
+        let start = good.diagonal(&mut turns.random);
+        let mut lent = good.with(start, words::count_word(1));
+        let row = Interval::new(1, 1 + good.opening.carry);
+        lent.words[start + 1] = words::interval_word(row);
+        let lent = lent.with(lent.words.clone());
+        turns.refuse(&lent, 9, 6, "counted row");
     }
 }
 
 #[test]
 fn opening_word_is_judged_before_the_cells() {
-    let mut random = Random::new(703);
-    for _ in 0..2_000 {
-        let opening = cases::opening(&mut random);
-        let good = Good::new(opening, cases::cells(&mut random, opening));
-        let mut words = good.words.clone();
-        for damage in [REFUSED_6[3].1, REFUSED_5[random.below(REFUSED_5.len())].1] {
-            let (place, word) = damage(&good, &mut random).expect("a place in every table");
+    let mut turns = Turns::new(703);
+    for _ in 0..1_000 {
+        let good = drawn(&mut turns.random);
+        let mut words = good.lent.words.clone();
+        let wrong = turns.random.below(REFUSED_5.len());
+        for damage in [REFUSED_6[3].1, REFUSED_5[wrong].1] {
+            let damaged = damage(&good, &mut turns.random);
+            let (place, word) = damaged.expect("a place in every table");
             words[place] = word;
         }
-        let numbers = cases::numbers(&mut random, opening);
-        assert_eq!(compare(&words, numbers, "both"), Added::Refused(5));
+        turns.refuse(&good.lent.with(words), 9, 5, "both");
     }
 }
 
-/// Flips each bit of each word in turn, and counts the refusals and the acceptances.
-fn flip_every_bit(good: &Good, random: &mut Random) -> [u32; 3] {
-    let mut seen = [0; 3];
-    let mut words = good.words.clone();
+/// Flips each bit of each word in turn, and makes so many calls on each.
+fn flip_every_bit(turns: &mut Turns, lent: &Lent, calls: usize) {
+    let mut words = lent.words.clone();
     for place in 0..words.len() {
         for bit in 0..32 {
             words[place] ^= 1 << bit;
-            let contact = cases::contact(random, good.opening);
-            let answer = compare(&words, (contact.from, contact.to, contact.tick), "one bit");
-            match answer {
-                Added::Refused(5) => seen[0] += 1,
-                Added::Refused(6) => seen[1] += 1,
-                _ => seen[2] += 1,
-            }
+            turns.take(&lent.with(words.clone()), calls);
             words[place] ^= 1 << bit;
         }
     }
-    seen
 }
 
 #[test]
 fn every_bit_of_small_tables() {
-    let mut random = Random::new(704);
-    for _ in 0..60 {
-        let opening = cases::opening_with_pairs(&mut random);
-        let cells = cases::cells(&mut random, opening);
-        let [five, six, _] = flip_every_bit(&Good::new(opening, cells), &mut random);
-        assert!(five >= 6 + 8 && six > 100, "{opening:?} {five} {six}");
+    let mut turns = Turns::new(704);
+    for _ in 0..100 {
+        let lent = draws::stored(&mut turns.random);
+        flip_every_bit(&mut turns, &lent, 3);
     }
+    turns.suite.at_least(20, &Export::ON_OPEN_TABLES, &REFUSALS);
+}
+
+#[test]
+fn every_bit_of_tables_that_adds_built() {
+    let mut turns = Turns::new(709);
+    for _ in 0..100 {
+        let lent = draws::built(&mut turns.random);
+        flip_every_bit(&mut turns, &lent, 3);
+    }
+    let asked = [
+        Export::Add,
+        Export::WriteLog,
+        Export::Reach,
+        Export::Claimed,
+    ];
+    turns.suite.at_least(5, &asked, &REFUSALS);
 }
 
 #[test]
 fn every_bit_of_long_cells() {
-    let mut random = Random::new(705);
+    let mut turns = Turns::new(705);
     let opening = Opening::new(2, 1024, 200);
-    let mut cells = cases::cells(&mut random, opening);
+    let mut cells = cases::cells(&mut turns.random, opening);
     cells[1].truncate(300);
     cells[2].truncate(3);
-    let [five, six, accepted] = flip_every_bit(&Good::new(opening, cells), &mut random);
-    assert!(
-        five >= 14 && six > 100_000 && accepted > 0,
-        "{five} {six} {accepted}"
-    );
+    flip_every_bit(&mut turns, &Lent::stored(opening, &cells), 1);
+    for export in Export::ON_OPEN_TABLES {
+        let six = turns
+            .suite
+            .times(export, |reply| reply == Reply::Refused(6));
+        assert!(six > 10_000, "{export:?} {six}");
+    }
+    let all = |is_such: fn(Reply) -> bool| -> u32 {
+        let times = Export::ON_OPEN_TABLES.map(|export| turns.suite.times(export, is_such));
+        times.iter().sum()
+    };
+    let five = all(|reply| reply == Reply::Refused(5));
+    let accepted = all(|reply| !matches!(reply, Reply::Refused(_)));
+    assert!(five >= 14 && accepted > 0, "{five} {accepted}");
 }
 
 #[test]
 fn every_word_of_every_cell_length() {
-    let mut random = Random::new(708);
+    let mut turns = Turns::new(708);
     let mut lengths: Vec<u32> = (1..=130).collect();
     lengths.extend([255, 256, 257, 511, 512, 513, 1000, 1023, 1024]);
     for ticks in lengths {
-        let opening = Opening::new(2, ticks, random.between(1, 256));
-        let mut cells = cases::cells(&mut random, opening);
-        let rows = random.below(cells[2].len() + 1);
+        let opening = Opening::new(2, ticks, turns.random.between(1, 256));
+        let mut cells = cases::cells(&mut turns.random, opening);
+        let rows = turns.random.below(cells[2].len() + 1);
         cells[2].truncate(rows);
         let good = Good::new(opening, cells);
-        for place in 1..good.words.len() {
-            let mut words = good.words.clone();
-            words[place] ^= 1 << random.between(22, 31);
-            assert_eq!(
-                compare(&words, (0, 1, ticks), "one bit"),
-                Added::Refused(6),
-                "{ticks} {place}"
-            );
+        for place in 1..good.lent.words.len() {
+            let bit = turns.random.between(22, 31);
+            let lent = good.with(place, good.lent.words[place] ^ 1 << bit);
+            turns.refuse(&lent, if ticks <= 70 { 9 } else { 2 }, 6, "one bit");
         }
     }
+}
+
+#[test]
+fn every_interval_and_count_at_every_word() {
+    let mut turns = Turns::new(710);
+    for (animals, ticks, carry) in [(1, 2, 1), (2, 1, 3), (2, 3, 1), (2, 4, 2), (3, 3, 2)] {
+        let opening = Opening::new(animals, ticks, carry);
+        let departures = (0..=ticks + 2).chain([1024, 2047]);
+        let arrivals: Vec<u32> = (0..=ticks + carry + 2).chain([1280, 2047]).collect();
+        let mut others: Vec<u32> = (0..=ticks + 2).map(words::count_word).collect();
+        others.extend([words::count_word(1024), words::count_word(2047), 0, 1]);
+        for departure in departures {
+            let interval = |&arrival: &u32| Interval::new(departure, arrival);
+            others.extend(arrivals.iter().map(interval).map(words::interval_word));
+        }
+        for _ in 0..20 {
+            let cells = cases::cells(&mut turns.random, opening);
+            let good = Good::new(opening, cells);
+            for place in 0..good.lent.words.len() {
+                for &other in &others {
+                    turns.take(&good.with(place, other), 3);
+                }
+            }
+        }
+    }
+    turns.suite.at_least(10, &Export::ON_OPEN_TABLES, &REFUSALS);
+}
+
+/// Puts one to three random words at random places of the table, or leaves it as it is now and then.
+fn scattered(random: &mut Random, lent: &Lent) -> Lent {
+    let mut words = lent.words.clone();
+    for _ in 0..random.below(4) {
+        let place = random.below(words.len());
+        let other = random.one_of(&words);
+        let small = random.word() & 0x0000_3FFF;
+        let flipped = words[place] ^ 1 << random.between(0, 31);
+        let step = random.one_of(&[1, 1 << 11, u32::MAX, 0u32.wrapping_sub(1 << 11)]);
+        let near = words[place].wrapping_add(step);
+        words[place] = random.one_of(&[other, flipped, near, near, 0x4000_0000 | small, 0]);
+    }
+    lent.with(words)
 }
 
 #[test]
 fn random_words_anywhere() {
-    let mut random = Random::new(706);
-    let mut seen = [0; 10];
-    let mut accepted = 0;
-    for _ in 0..150_000 {
-        let opening = cases::opening(&mut random);
-        let good = Good::new(opening, cases::cells(&mut random, opening));
-        let mut words = good.words.clone();
-        for _ in 0..random.between(1, 3) {
-            let place = random.below(words.len());
-            let other = random.one_of(&words);
-            let small = random.word() & 0x0000_3FFF;
-            let flipped = words[place] ^ 1 << random.between(0, 31);
-            let near = words[place].wrapping_add(random.one_of(&[
-                1,
-                1 << 11,
-                u32::MAX,
-                0u32.wrapping_sub(1 << 11),
-            ]));
-            words[place] = random.one_of(&[other, flipped, near, near, 0x4000_0000 | small, 0]);
-        }
-        let numbers = cases::numbers(&mut random, opening);
-        match compare(&words, numbers, "random words") {
-            Added::Refused(number) => seen[number as usize] += 1,
-            _ => accepted += 1,
-        }
+    let mut turns = Turns::new(706);
+    for round in 0..120_000 {
+        let lent = match round % 3 {
+            0 => draws::built(&mut turns.random),
+            _ => draws::stored(&mut turns.random),
+        };
+        let damaged = scattered(&mut turns.random, &lent);
+        turns.take(&damaged, 5);
     }
-    assert!(
-        seen[5] > 500 && seen[6] > 20_000 && accepted > 2_000,
-        "{seen:?} {accepted}"
-    );
+    turns
+        .suite
+        .at_least(300, &Export::ON_OPEN_TABLES, &REFUSALS);
 }
 
 #[test]
 fn nothing_but_random_words() {
-    let mut random = Random::new(707);
-    for _ in 0..20_000 {
-        let opening = cases::opening(&mut random);
-        let mut words = random.words(opening.table_words());
-        let numbers = cases::numbers(&mut random, opening);
-        compare(&words, numbers, "any first word");
+    let mut turns = Turns::new(707);
+    for _ in 0..10_000 {
+        let opening = cases::opening(&mut turns.random);
+        let mut words = turns.random.words(opening.table_words());
+        turns.take(&Lent::words(opening, words.clone()), 9);
         words[0] = words::opening_word(opening);
-        assert_eq!(
-            compare(&words, numbers, "an opening word"),
-            Added::Refused(6)
+        turns.refuse(&Lent::words(opening, words), 9, 6, "an opening word");
+    }
+}
+
+#[test]
+fn wrong_lengths_are_refused() {
+    let mut turns = Turns::new(711);
+    for _ in 0..1_000 {
+        let good = drawn(&mut turns.random);
+        let (mut words, right) = (good.lent.words.clone(), good.lent.words.len());
+        words.push(turns.random.one_of(&[0, 0xC000_0000, 0xFFFF_FFFF]));
+        words.extend(vec![0; 40]);
+        let anywhere = turns.random.below(right);
+        let longer = right + 1 + turns.random.below(40);
+        for length in [0, 1, anywhere, right - 1, right + 1, longer] {
+            let lent = good.lent.with(words[..length].to_vec());
+            turns.refuse(&lent, 9, 5, "a wrong length");
+        }
+    }
+}
+
+#[test]
+fn every_opening_word_over_a_short_table() {
+    let mut turns = Turns::new(712);
+    for _ in 0..20_000 {
+        let random = &mut turns.random;
+        let opening = Opening::new(
+            random.between(1, 256),
+            random.between(1, 1024),
+            random.between(1, 256),
         );
+        let mut words = vec![0; random.between(1, 40) as usize];
+        words[0] = words::opening_word(opening);
+        turns.take(&Lent::words(opening, words), 2);
+    }
+    for export in Export::ON_OPEN_TABLES {
+        let five = turns
+            .suite
+            .times(export, |reply| reply == Reply::Refused(5));
+        assert!(five > 4_000, "{export:?} {five}");
+    }
+}
+
+#[test]
+fn a_length_that_another_opening_has() {
+    let mut turns = Turns::new(713);
+    let table = words::table(Opening::new(1, 7, 1), &vec![Vec::new()]);
+    assert_eq!(table.len(), Opening::new(2, 1, 1).table_words());
+    for (animals, ticks) in [(2, 2), (3, 1), (1, 6), (1, 8), (256, 1024)] {
+        let other = Opening::new(animals, ticks, 1);
+        let mut words = table.clone();
+        words[0] = words::opening_word(other);
+        turns.refuse(&Lent::words(other, words), 9, 5, "another length");
     }
 }

@@ -1,57 +1,193 @@
-//! Tables and logs that touch memory which cannot be read or written.
+//! Every call with its lent words beside memory that cannot be read or written, and with lengths beyond 32 bits.
 
+use herd::testing::cases;
 use herd::testing::compare::same_words;
-use herd::testing::guard::{Guarded, PLACES};
+use herd::testing::guard::{Guarded, Memory, Place};
 use herd::testing::random::Random;
+use herd::testing::suite::call::Call;
+use herd::testing::suite::lent::Lent;
+use herd::testing::suite::reply::{Export, Reply};
+use herd::testing::suite::{draws, Suite};
 use herd::testing::words::{self, Opening};
-use herd::testing::{calls, cases};
-use herd::{read_log, Read};
-use herd::{Added, Opened};
+use herd::{Added, Answer, Chain, Opened, Reached, Read, Tick, Written};
+use std::env;
+use std::os::unix::process::ExitStatusExt;
+use std::process::Command;
+use std::sync::Mutex;
 
-/// Runs an add on a copy of the words at each guard, and compares it with document 01.
-fn add_at_guards(words: &[u32], (u, v, t): (u32, u32, u32)) -> Added {
-    let (expected, after) = calls::add(words, u, v, t);
-    for place in PLACES {
-        let mut table = Guarded::new(place, words);
-        let case = (place, words.len(), u, v, t);
-        assert_eq!(herd::add(&mut table, u, v, t), expected, "{case:?}");
-        same_words(&table, &after, case);
-    }
-    expected
-}
+/// A change of what memory may be used for stops all running threads, so the tests take turns.
+static TURN: Mutex<()> = Mutex::new(());
 
-/// Reads a log at each guard, which cannot be written, into a table at each guard, and compares it with document 01.
-fn read_at_guards(log: &[u32], before: &[u32]) -> Read {
-    let (expected, after) = calls::read_log(log, before);
-    for log_place in PLACES {
-        let lent = Guarded::new(log_place, log).freeze();
-        for table_place in PLACES {
-            let mut table = Guarded::new(table_place, before);
-            let case = (log_place, table_place, log, before.len());
-            assert_eq!(read_log(&lent, &mut table), expected, "{case:?}");
-            same_words(&table, &after, case);
+/// Makes drawn calls of every kind at the guards, so many of each.
+fn compare_drawn(suite: &mut Suite, random: &mut Random, lent: &Lent, times: usize) {
+    for export in Export::ALL {
+        for _ in 0..times {
+            let call = lent.draw(random, export);
+            suite.compare_at_guards(lent, &call);
         }
     }
-    expected
+}
+
+/// Touches words at guards in the way of this name.
+fn touch(way: &str) {
+    let mut ends = Guarded::new(Place::EndsAtGuard, &[1, 2, 3]);
+    let starts = Guarded::new(Place::StartsAtGuard, &[1, 2, 3]);
+    let frozen = Guarded::new(Place::EndsAtGuard, &[1, 2, 3]).freeze();
+    let (end, start) = (ends.as_mut_ptr(), starts.as_ptr());
+    // SAFETY: what lies outside the words is asked for on purpose; the process must end there.
+    unsafe {
+        match way {
+            "inside" => end.add(2).write_volatile(start.read_volatile() + frozen[2]),
+            "read behind" => drop(end.add(3).read_volatile()),
+            "write behind" => end.add(3).write_volatile(4),
+            "read before" => drop(start.sub(1).read_volatile()),
+            _ => frozen.as_ptr().cast_mut().write_volatile(4),
+        }
+    }
 }
 
 #[test]
-fn opening_stays_inside() {
+fn touching_a_guard_ends_the_process() {
+    if let Ok(way) = env::var("TOUCH") {
+        return touch(&way);
+    }
+    for (way, signal) in [
+        ("inside", None),
+        ("read behind", Some(11)),
+        ("write behind", Some(11)),
+        ("read before", Some(11)),
+        ("write frozen", Some(11)),
+    ] {
+        let mut child = Command::new(env::current_exe().expect("this program"));
+        child.args(["--exact", "touching_a_guard_ends_the_process"]);
+        let output = child.env("TOUCH", way).output().expect("a child");
+        assert_eq!(output.status.signal(), signal, "{way}");
+        assert_eq!(output.status.success(), signal.is_none(), "{way}");
+    }
+}
+
+#[test]
+fn tables_that_adds_built_stay_inside() {
+    let _turn = TURN.lock();
     let mut random = Random::new(601);
-    for animals in 1..=5 {
-        for ticks in [1, 2, 3, 7, 16, 33] {
-            for carry in [1, 5, 256] {
-                let right = Opening::new(animals, ticks, carry).table_words();
-                for length in [right, right - 1, right + 1, 0] {
-                    let words = random.words(length);
-                    let (expected, after) = calls::open(&words, animals, ticks, carry);
-                    for place in PLACES {
-                        let mut table = Guarded::new(place, &words);
-                        let answer = herd::open(&mut table, animals, ticks, carry);
-                        let case = (place, animals, ticks, carry, length);
-                        assert_eq!(answer, expected, "{case:?}");
-                        same_words(&table, &after, case);
-                    }
+    let mut suite = Suite::default();
+    for _ in 0..2_000 {
+        let lent = draws::built(&mut random);
+        compare_drawn(&mut suite, &mut random, &lent, 3);
+    }
+    suite.at_least(
+        30,
+        &Export::ALL,
+        &[1, 2, 3, 4, 7, 8, 9, 10, 11, 12, 13, 14, 15],
+    );
+}
+
+#[test]
+fn tables_that_no_adds_built_stay_inside() {
+    let _turn = TURN.lock();
+    let mut random = Random::new(602);
+    let mut suite = Suite::default();
+    for _ in 0..2_000 {
+        let lent = draws::stored(&mut random);
+        compare_drawn(&mut suite, &mut random, &lent, 3);
+    }
+    suite.at_least(
+        30,
+        &Export::ALL,
+        &[1, 2, 3, 4, 7, 8, 9, 10, 11, 12, 13, 14, 15],
+    );
+}
+
+#[test]
+fn full_cells_stay_inside() {
+    let _turn = TURN.lock();
+    let mut random = Random::new(603);
+    let mut suite = Suite::default();
+    for ticks in [1, 2, 5, 8, 31] {
+        for carry in [1, 3, 40] {
+            let opening = Opening::new(3, ticks, carry);
+            let mut cells = cases::full_cells(opening);
+            let full = Lent::stored(opening, &cells);
+            for contact in cases::legal_contacts(opening) {
+                let (u, v, t) = (contact.from, contact.to, contact.tick);
+                let reply = suite.compare_at_guards(&full, &Call::Add { u, v, t });
+                assert_eq!(reply, Reply::Known(0), "{opening:?} {contact:?}");
+            }
+            let mut contacts = cases::legal_contacts(opening);
+            let number = Reply::Read(contacts.len() as u32);
+            for _ in 0..20 {
+                random.shuffle(&mut contacts);
+                let log = words::log(opening, contacts.clone());
+                let reply = suite.compare_at_guards(&full, &Call::ReadLog { log });
+                assert_eq!(reply, number, "{opening:?}");
+                contacts.push(random.one_of(&contacts));
+            }
+            compare_drawn(&mut suite, &mut random, &full, 4);
+            let pair = random.below(opening.pairs());
+            cells[pair].retain(|_| random.once_in(2));
+            let thinned = Lent::stored(opening, &cells);
+            compare_drawn(&mut suite, &mut random, &thinned, 4);
+        }
+    }
+}
+
+#[test]
+fn wide_tables_stay_inside() {
+    let _turn = TURN.lock();
+    let mut random = Random::new(604);
+    let mut suite = Suite::default();
+    for (animals, ticks, carry) in [(1, 1024, 256), (2, 1024, 1), (8, 200, 3), (33, 7, 256)] {
+        let opening = Opening::new(animals, ticks, carry);
+        let lent = Lent::stored(opening, &cases::cells(&mut random, opening));
+        compare_drawn(&mut suite, &mut random, &lent, 12);
+    }
+}
+
+#[test]
+fn wrong_words_stay_inside() {
+    let _turn = TURN.lock();
+    let mut random = Random::new(605);
+    let mut suite = Suite::default();
+    for round in 0..8_000 {
+        let lent = draws::stored(&mut random);
+        let opening = lent.opening;
+        let mut words = lent.words.clone();
+        let last = opening.cell_start(opening.animals - 1, opening.animals - 1);
+        let anywhere = random.below(words.len());
+        let place = random.one_of(&[0, 1, last, words.len() - 1, anywhere]);
+        let wrong = random.word() & 0x07FF;
+        let wrongs = [0xC000_0000 | wrong, u32::MAX, 0x8000_0000, 0x83FF_FFFF, 0];
+        words[place] = random.one_of(&wrongs);
+        words.truncate(words.len() - random.below(3).min(words.len()));
+        let lent = lent.with(words);
+        for turn in 0..3 {
+            let export = Export::ALL[(3 * round + turn) % Export::ALL.len()];
+            let call = lent.draw(&mut random, export);
+            suite.compare_at_guards(&lent, &call);
+        }
+    }
+    for export in Export::ON_OPEN_TABLES {
+        for number in [5, 6] {
+            let met = suite.times(export, |reply| reply == Reply::Refused(number));
+            assert!(met > 100, "{export:?} {number}: {met}");
+        }
+    }
+    suite.at_least(100, &[Export::Open, Export::ReadLog], &[4]);
+}
+
+#[test]
+fn empty_slices_and_single_words_stay_inside() {
+    let _turn = TURN.lock();
+    let mut random = Random::new(606);
+    let mut suite = Suite::default();
+    for words in [&[][..], &[0x83FF_FFFF], &[0], &[0x8000_0000]] {
+        for opening in [Opening::new(1, 1, 1), Opening::new(256, 1024, 256)] {
+            let lent = Lent::words(opening, words.to_vec());
+            for export in Export::ON_OPEN_TABLES {
+                for _ in 0..6 {
+                    let call = lent.draw(&mut random, export);
+                    let reply = suite.compare_at_guards(&lent, &call);
+                    assert_eq!(reply, Reply::Refused(5), "{call:?} on {words:08X?}");
                 }
             }
         }
@@ -59,140 +195,9 @@ fn opening_stays_inside() {
 }
 
 #[test]
-fn adding_stays_inside() {
-    let mut random = Random::new(602);
-    for place in PLACES {
-        for _ in 0..600 {
-            let opening = cases::opening(&mut random);
-            let (n, ticks, carry) = (opening.animals, opening.ticks, opening.carry);
-            let mut table = Guarded::new(place, &random.words(opening.table_words()));
-            assert_eq!(herd::open(&mut table, n, ticks, carry), Opened::Opened);
-            for _ in 0..30 {
-                let (u, v, t) = cases::numbers(&mut random, opening);
-                let (expected, after) = calls::add(&table, u, v, t);
-                assert_eq!(
-                    herd::add(&mut table, u, v, t),
-                    expected,
-                    "{opening:?} {u} {v} {t}"
-                );
-                same_words(&table, &after, (place, opening, u, v, t));
-            }
-        }
-    }
-}
-
-#[test]
-fn full_cells_stay_inside() {
-    let mut random = Random::new(603);
-    for ticks in [1, 2, 5, 8, 31] {
-        for carry in [1, 3, 40] {
-            let opening = Opening::new(3, ticks, carry);
-            let cells = cases::full_cells(opening);
-            let table = words::table(opening, &cells);
-            for contact in cases::legal_contacts(opening) {
-                let numbers = (contact.from, contact.to, contact.tick);
-                assert_eq!(add_at_guards(&table, numbers), Added::Known(0));
-                let mut thinned = cells.clone();
-                let pair = random.below(opening.pairs());
-                thinned[pair].retain(|_| random.once_in(2));
-                add_at_guards(&words::table(opening, &thinned), numbers);
-            }
-        }
-    }
-}
-
-#[test]
-fn wrong_words_stay_inside() {
-    let mut random = Random::new(604);
-    let mut seen = [0; 10];
-    for _ in 0..10_000 {
-        let opening = cases::opening(&mut random);
-        let mut table = words::table(opening, &cases::cells(&mut random, opening));
-        let last = opening.cell_start(opening.animals - 1, opening.animals - 1);
-        let anywhere = random.below(table.len());
-        let place = random.one_of(&[0, 1, last, table.len() - 1, anywhere]);
-        let wrong = random.word() & 0x07FF;
-        table[place] = random.one_of(&[
-            0xC000_0000 | wrong,
-            0xFFFF_FFFF,
-            0x8000_0000,
-            0x83FF_FFFF,
-            0,
-        ]);
-        table.truncate(table.len() - random.below(3).min(table.len()));
-        let numbers = cases::numbers(&mut random, opening);
-        if let Added::Refused(number) = add_at_guards(&table, numbers) {
-            seen[number as usize] += 1;
-        }
-    }
-    assert!(seen[5] > 500 && seen[6] > 200, "{seen:?}");
-}
-
-#[test]
-fn empty_slices_at_guards() {
-    assert_eq!(add_at_guards(&[], (0, 1, 1)), Added::Refused(5));
-    assert_eq!(add_at_guards(&[0x83FF_FFFF], (0, 1, 1)), Added::Refused(5));
-}
-
-#[test]
-fn reading_stays_inside() {
-    let mut random = Random::new(605);
-    let mut read = 0;
-    for _ in 0..1_500 {
-        let opening = cases::opening(&mut random);
-        let contacts = cases::log_contacts(&mut random, opening, 30);
-        let log = words::log(opening, contacts);
-        let right = opening.table_words();
-        for length in [right, right - 1, right + 1, 0] {
-            let answer = read_at_guards(&log, &random.words(length));
-            assert_eq!(answer == Read::Refused(4), length != right, "{opening:?}");
-            read += u32::from(answer != Read::Refused(4));
-        }
-    }
-    assert_eq!(read, 1_500);
-}
-
-#[test]
-fn reading_full_cells_stays_inside() {
-    let mut random = Random::new(606);
-    for ticks in [1, 2, 5, 8, 31] {
-        for carry in [1, 3, 40] {
-            let opening = Opening::new(3, ticks, carry);
-            let mut contacts = cases::legal_contacts(opening);
-            let number = Read::Contacts(contacts.len() as u32);
-            for _ in 0..20 {
-                random.shuffle(&mut contacts);
-                let before = random.words(opening.table_words());
-                let log = words::log(opening, contacts.clone());
-                assert_eq!(read_at_guards(&log, &before), number, "{opening:?}");
-                contacts.push(random.one_of(&contacts));
-            }
-        }
-    }
-}
-
-#[test]
-fn reading_wrong_logs_stays_inside() {
-    let mut random = Random::new(607);
-    let mut seen = [0; 15];
-    let mut read = 0;
-    for _ in 0..8_000 {
-        let opening = cases::opening(&mut random);
-        let contacts = cases::log_contacts(&mut random, opening, 12);
-        let log = cases::damaged_log(&mut random, &words::log(opening, contacts));
-        let right = opening.table_words();
-        let length = random.one_of(&[right, right, right, right - 1, right + 1]);
-        match read_at_guards(&log, &random.words(length)) {
-            Read::Refused(number) => seen[number as usize] += 1,
-            Read::Contacts(_) => read += 1,
-        }
-    }
-    let enough = [4, 11, 12, 13, 14].iter().all(|&number| seen[number] > 200);
-    assert!(enough && read > 200, "{seen:?} {read}");
-}
-
-#[test]
-fn reading_no_word_one_or_two_stays_inside() {
+fn logs_of_no_word_one_and_two_stay_inside() {
+    let _turn = TURN.lock();
+    let mut suite = Suite::default();
     let opening = Opening::new(256, 1024, 256);
     let first = words::opening_word(opening);
     let end = words::end_word(0);
@@ -205,16 +210,118 @@ fn reading_no_word_one_or_two_stays_inside() {
         (&[first, u32::MAX], 4),
     ] {
         for table in [&[][..], &[7], &[first, end]] {
-            assert_eq!(read_at_guards(log, table), Read::Refused(number));
+            let lent = Lent::words(opening, table.to_vec());
+            let reply = suite.compare_at_guards(&lent, &Call::ReadLog { log: log.to_vec() });
+            assert_eq!(reply, Reply::Refused(number), "{log:08X?}");
         }
     }
-    let first = words::opening_word(Opening::new(1, 1, 1));
-    for (last, answer) in [
-        (end, Read::Contacts(0)),
-        (words::end_word(1), Read::Refused(14)),
-        (first, Read::Refused(14)),
-        (0, Read::Refused(14)),
+    let opening = Opening::new(1, 1, 1);
+    let first = words::opening_word(opening);
+    let lent = Lent::words(opening, vec![1, 2, 3]);
+    for (last, expected) in [
+        (end, Reply::Read(0)),
+        (words::end_word(1), Reply::Refused(14)),
+        (first, Reply::Refused(14)),
+        (0, Reply::Refused(14)),
     ] {
-        assert_eq!(read_at_guards(&[first, last], &[1, 2, 3]), answer);
+        let log = vec![first, last];
+        let reply = suite.compare_at_guards(&lent, &Call::ReadLog { log });
+        assert_eq!(reply, expected, "{last:08X}");
     }
+}
+
+#[test]
+fn openings_stay_inside() {
+    let _turn = TURN.lock();
+    let mut random = Random::new(607);
+    let mut suite = Suite::default();
+    for animals in 1..=5 {
+        for ticks in [1, 2, 3, 7, 16, 33] {
+            for carry in [1, 5, 256] {
+                let opening = Opening::new(animals, ticks, carry);
+                let right = opening.table_words();
+                for length in [right, right - 1, right + 1, 0] {
+                    let lent = Lent::words(opening, random.words(length));
+                    let call = Call::Open {
+                        animals,
+                        ticks,
+                        carry,
+                    };
+                    suite.compare_at_guards(&lent, &call);
+                    let contacts = cases::log_contacts(&mut random, opening, 30);
+                    let log = words::log(opening, contacts);
+                    suite.compare_at_guards(&lent, &Call::ReadLog { log });
+                }
+            }
+        }
+    }
+    suite.at_least(90, &[Export::Open, Export::ReadLog], &[4]);
+}
+
+/// Memory of this many words and 2³² more, which begins with these words.
+fn vast(words: &[u32]) -> Guarded {
+    let mut vast = Guarded::zero(Place::StartsAtGuard, words.len() + (1 << 32));
+    vast[..words.len()].copy_from_slice(words);
+    vast
+}
+
+#[test]
+fn tables_of_more_words_than_32_bits_count() {
+    let _turn = TURN.lock();
+    let opening = Opening::new(4, 6, 1);
+    let table = words::table(opening, &cases::full_cells(opening));
+    let mut lent = vast(&table);
+    let mut buffer = [7; 80];
+    assert_eq!(herd::open(&mut lent, 4, 6, 1), Opened::Refused(4));
+    let log = words::log(opening, cases::legal_contacts(opening));
+    assert_eq!(herd::read_log(&log, &mut lent), Read::Refused(4));
+    assert_eq!(herd::add(&mut lent, 0, 1, 1), Added::Refused(5));
+    let written = herd::write_log(&lent, &mut buffer);
+    assert_eq!(written, Written::Refused(5));
+    assert_eq!(herd::reach(&lent, 0, 1, 1, 7), Answer::Refused(5));
+    assert_eq!(herd::earliest(&lent, 0, 1, 1), Tick::Refused(5));
+    assert_eq!(herd::latest(&lent, 0, 1, 7), Tick::Refused(5));
+    assert_eq!(herd::connected(&lent, 1, 7), Answer::Refused(5));
+    let reached = herd::reached(&lent, 0, 1, 7, &mut buffer);
+    assert_eq!(reached, Reached::Refused(5));
+    let chain = herd::chain(&lent, 0, 1, 1, 7, &mut buffer);
+    assert_eq!(chain, Chain::Refused(5));
+    let claimed = herd::claimed(&lent, 0, 1, 1, 7, &[0x4000_0400]);
+    assert_eq!(claimed, Answer::Refused(5));
+    same_words(&lent[..table.len()], &table, "vast");
+    assert!(lent[table.len()..10_000].iter().all(|&word| word == 0));
+    assert_eq!(buffer, [7; 80]);
+}
+
+#[test]
+fn more_words_beside_a_table_than_32_bits_count() {
+    let _turn = TURN.lock();
+    let opening = Opening::new(4, 6, 1);
+    let table = words::table(opening, &cases::full_cells(opening));
+    let log = words::log(opening, cases::legal_contacts(opening));
+    let mut buffer = vast(&[]);
+    let chain = herd::chain(&table, 0, 1, 1, 7, &mut buffer);
+    assert_eq!(chain, Chain::Contacts(1));
+    assert_eq!(buffer[..4], [0x4000_0400, 0, 0, 0]);
+    let reached = herd::reached(&table, 0, 1, 7, &mut buffer);
+    assert_eq!(reached, Reached::Animals(3));
+    assert_eq!(buffer[..9], [0b1110, 0, 0, 0, 0, 0, 0, 0, 0]);
+    let written = herd::write_log(&table, &mut buffer);
+    assert_eq!(written, Written::Written(log.len() as u32));
+    same_words(&buffer[..log.len()], &log, "vast");
+    assert!(buffer[log.len()..1_000].iter().all(|&word| word == 0));
+
+    let chain = vast(&[0x4000_0400]);
+    let claimed = herd::claimed(&table, 0, 1, 1, 7, &chain);
+    assert_eq!(claimed, Answer::No);
+    let claimed = herd::claimed(&table, 0, 1, 1, 7, &chain[..1]);
+    assert_eq!(claimed, Answer::Yes);
+
+    let mut lent = vast(&log);
+    let mut after = vec![5; table.len()];
+    assert_eq!(herd::read_log(&lent, &mut after), Read::Refused(12));
+    assert_eq!(herd::read_log(&lent, &mut after[1..]), Read::Refused(4));
+    lent[0] = 0;
+    assert_eq!(herd::read_log(&lent, &mut after), Read::Refused(11));
+    assert_eq!(after, vec![5; table.len()]);
 }

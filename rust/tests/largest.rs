@@ -1,15 +1,41 @@
-//! The largest table: 256 animals, 1,024 ticks.
+//! Every call on the largest table: 256 animals, 1,024 ticks, carry time 256.
 
 use herd::testing::calls::accepted;
-use herd::testing::compare::same_table;
+use herd::testing::compare::{same_table, same_words};
 use herd::testing::model::{self, Contacts};
-use herd::testing::words::{self, Contact, Interval, Opening};
-use herd::{Added, Opened};
+use herd::testing::words::{self, Cells, Contact, Interval, Opening};
+use herd::{Added, Answer, Chain, Opened, Reached, Read, Tick, Written};
+
+/// The largest opening.
+const LARGEST: Opening = Opening {
+    animals: 256,
+    ticks: 1024,
+    carry: 256,
+};
+
+/// The contacts of these triples.
+fn contacts<const N: usize>(listed: [(u32, u32, u32); N]) -> [Contact; N] {
+    listed.map(|(u, v, t)| Contact::new(u, v, t))
+}
+
+/// Compares the cells of some animals.
+fn same_cells(table: &[u32], cells: &Cells, animals: &[u32]) {
+    for &x in animals {
+        for &y in animals {
+            let start = LARGEST.cell_start(x, y);
+            let cell = &cells[LARGEST.pair(x, y)];
+            assert_eq!(table[start], words::count_word(cell.len() as u32));
+            for (row, &interval) in cell.iter().enumerate() {
+                let word = words::interval_word(interval);
+                assert_eq!(table[start + 1 + row], word, "{x} {y}");
+            }
+        }
+    }
+}
 
 #[test]
 fn opening_and_a_few_adds() {
-    let opening = Opening::new(256, 1024, 256);
-    let length = opening.table_words();
+    let length = LARGEST.table_words();
     assert_eq!(length, 67_174_401);
     let mut memory = vec![0x5555_5555; length + 1];
 
@@ -21,10 +47,10 @@ fn opening_and_a_few_adds() {
     let table = &mut memory[..length];
     assert_eq!(herd::open(table, 256, 1024, 256), Opened::Opened);
 
-    let mut contacts = Contacts::new();
-    let mut intervals = model::minimal_intervals(opening, &contacts);
-    same_table(table, opening, &intervals, "opened");
-    let calls = [
+    let mut set = Contacts::new();
+    let mut intervals = model::minimal_intervals(LARGEST, &set);
+    same_table(table, LARGEST, &intervals, "opened");
+    for contact in contacts([
         (255, 0, 1024),
         (0, 255, 769),
         (7, 0, 513),
@@ -34,42 +60,19 @@ fn opening_and_a_few_adds() {
         (7, 0, 512),
         (7, 0, 513),
         (255, 254, 1024),
-    ];
-    for (u, v, t) in calls {
-        let contact = Contact::new(u, v, t);
-        let new = contacts.insert(contact);
-        let after = model::minimal_intervals(opening, &contacts);
+    ]) {
+        let new = set.insert(contact);
+        let after = model::minimal_intervals(LARGEST, &set);
         let changed = model::changed_pairs(&intervals, &after);
-        let answer = herd::add(table, u, v, t);
-        let expected = accepted(!new, changed);
-        assert_eq!(answer, expected, "{contact:?}");
-        for x in [0, 3, 7, 254, 255] {
-            for y in [0, 3, 7, 254, 255] {
-                let start = opening.cell_start(x, y);
-                let cell = &after[opening.pair(x, y)];
-                assert_eq!(
-                    table[start],
-                    words::count_word(cell.len() as u32),
-                    "{x} {y}"
-                );
-                for (row, &interval) in cell.iter().enumerate() {
-                    assert_eq!(
-                        table[start + 1 + row],
-                        words::interval_word(interval),
-                        "{x} {y}"
-                    );
-                }
-            }
-        }
+        let answer = herd::add(table, contact.from, contact.to, contact.tick);
+        assert_eq!(answer, accepted(!new, changed), "{contact:?}");
+        same_cells(table, &after, &[0, 3, 7, 254, 255]);
         intervals = after;
     }
-    same_table(table, opening, &intervals, "added");
-    let joined = &intervals[opening.pair(3, 255)];
-    assert_eq!(
-        joined,
-        &[Interval::new(1, 1025)],
-        "a journey of four contacts"
-    );
+    same_table(table, LARGEST, &intervals, "added");
+    let joined = &intervals[LARGEST.pair(3, 255)];
+    let four_contacts = [Interval::new(1, 1025)];
+    assert_eq!(joined, &four_contacts);
 
     for ((u, v, t), number) in [
         ((256, 0, 1), 7),
@@ -85,6 +88,215 @@ fn opening_and_a_few_adds() {
     table[last] = 0;
     assert_eq!(herd::add(&mut table[..last], 0, 1, 1), Added::Refused(5));
     assert_eq!(herd::add(&mut memory, 0, 1, 1), Added::Refused(5));
-    same_table(&memory[..length], opening, &intervals, "refused");
+    same_table(&memory[..length], LARGEST, &intervals, "refused");
     assert_eq!(memory[length], 0x5555_5555);
+}
+
+/// The largest table with four contacts that one journey follows and one more, and a word behind it.
+fn asked() -> (Vec<u32>, [Contact; 5]) {
+    let listed = contacts([
+        (255, 0, 1024),
+        (3, 254, 1),
+        (254, 7, 257),
+        (7, 0, 513),
+        (0, 255, 769),
+    ]);
+    let mut memory = vec![0; LARGEST.table_words() + 1];
+    let length = memory.len() - 1;
+    let log = words::log(LARGEST, listed);
+    let answer = herd::read_log(&log, &mut memory[..length]);
+    assert_eq!(answer, Read::Contacts(5));
+    (memory, listed)
+}
+
+#[test]
+fn questions_with_a_few_contacts() {
+    let (mut memory, listed) = asked();
+    let length = memory.len() - 1;
+    let table = &memory[..length];
+    let way = words::contact_words(&listed[1..]);
+    for ((u, v, first, last), reach, claimed) in [
+        ((3, 255, 1, 1025), Answer::Yes, Answer::Yes),
+        ((3, 255, 1, 1024), Answer::No, Answer::No),
+        ((3, 255, 2, 1280), Answer::No, Answer::No),
+        ((255, 0, 1024, 1280), Answer::Yes, Answer::No),
+        ((255, 0, 1025, 1280), Answer::No, Answer::No),
+        ((255, 254, 1, 1280), Answer::No, Answer::No),
+        ((255, 0, 1024, 1281), Answer::Refused(9), Answer::Refused(9)),
+        ((255, 255, 0, 1281), Answer::Refused(8), Answer::Refused(8)),
+        ((256, 256, 0, 1281), Answer::Refused(7), Answer::Refused(7)),
+    ] {
+        let case = (u, v, first, last);
+        let answer = herd::reach(table, u, v, first, last);
+        assert_eq!(answer, reach, "{case:?}");
+        let answer = herd::claimed(table, u, v, first, last, &way);
+        assert_eq!(answer, claimed, "{case:?}");
+    }
+    for ((u, v, tick), earliest, latest) in [
+        ((3, 255, 1), Tick::At(1025), Tick::Nothing),
+        ((3, 255, 1025), Tick::Nothing, Tick::At(1)),
+        ((255, 0, 1024), Tick::At(1280), Tick::Nothing),
+        ((255, 0, 1280), Tick::Nothing, Tick::At(1024)),
+        ((255, 0, 1281), Tick::Refused(9), Tick::Refused(9)),
+        ((255, 255, 0), Tick::Refused(8), Tick::Refused(8)),
+        ((256, 256, 0), Tick::Refused(7), Tick::Refused(7)),
+    ] {
+        let case = (u, v, tick);
+        assert_eq!(herd::earliest(table, u, v, tick), earliest, "{case:?}");
+        assert_eq!(herd::latest(table, u, v, tick), latest, "{case:?}");
+    }
+    let mut set = [7; 9];
+    let reached = herd::reached(table, 3, 1, 1280, &mut set);
+    assert_eq!(reached, Reached::Animals(4));
+    assert_eq!(set, [0x81, 0, 0, 0, 0, 0, 0, 0xC000_0000, 7]);
+    let reached = herd::reached(table, 256, 0, 1281, &mut set);
+    assert_eq!((reached, set[0]), (Reached::Refused(7), 0x81));
+    assert_eq!(herd::connected(table, 1, 1280), Answer::No);
+    assert_eq!(herd::connected(table, 1, 1281), Answer::Refused(9));
+
+    let mut buffer = vec![7; 256];
+    for ((u, v, first, last), room, answer) in [
+        ((3, 255, 1, 1280), 254, Chain::Refused(10)),
+        ((3, 255, 1, 1024), 255, Chain::NoJourney),
+        ((3, 255, 2, 1280), 255, Chain::NoJourney),
+        ((255, 254, 1, 1280), 256, Chain::NoJourney),
+        ((255, 0, 1024, 1281), 256, Chain::Refused(9)),
+        ((255, 255, 0, 1281), 256, Chain::Refused(8)),
+        ((256, 256, 0, 1281), 256, Chain::Refused(7)),
+    ] {
+        let found = herd::chain(table, u, v, first, last, &mut buffer[..room]);
+        assert_eq!(found, answer, "{u} {v} {first} {last} {room}");
+        assert!(buffer.iter().all(|&word| word == 7), "{u} {v} {first}");
+    }
+    let found = herd::chain(table, 3, 255, 1, 1025, &mut buffer[..255]);
+    assert_eq!(found, Chain::Contacts(4));
+    same_words(&buffer[..4], &way, "four contacts");
+    let found = herd::chain(table, 255, 0, 1024, 1280, &mut buffer);
+    assert_eq!(found, Chain::Contacts(1));
+    assert_eq!(buffer[0], words::contact_word(listed[0]));
+    same_words(&buffer[1..4], &way[1..], "three words stay");
+    assert!(buffer[4..].iter().all(|&word| word == 7));
+
+    let cells = model::minimal_intervals(LARGEST, &listed.into());
+    same_table(table, LARGEST, &cells, "asked");
+    memory[length - 1] = 1;
+    for (words, number) in [(length, 6), (length - 1, 5), (length + 1, 5)] {
+        let table = &memory[..words];
+        let refused = Answer::Refused(number);
+        assert_eq!(herd::reach(table, 256, 256, 0, 0), refused);
+        assert_eq!(herd::claimed(table, 256, 256, 0, 0, &way), refused);
+        assert_eq!(herd::connected(table, 0, 0), refused);
+        let refused = Tick::Refused(number);
+        assert_eq!(herd::earliest(table, 256, 256, 0), refused);
+        assert_eq!(herd::latest(table, 256, 256, 0), refused);
+        let found = herd::chain(table, 256, 256, 0, 0, &mut buffer);
+        assert_eq!(found, Chain::Refused(number));
+        let reached = herd::reached(table, 256, 0, 0, &mut set);
+        assert_eq!(reached, Reached::Refused(number));
+    }
+}
+
+#[test]
+fn reading_a_log() {
+    let listed = contacts([
+        (255, 254, 1024),
+        (254, 7, 257),
+        (7, 0, 513),
+        (0, 255, 769),
+        (3, 254, 1),
+        (254, 7, 1),
+        (7, 0, 512),
+        (7, 0, 513),
+        (255, 0, 1024),
+        (3, 254, 1),
+    ]);
+    let mut log = words::log(LARGEST, listed);
+    let mut table = vec![0x5555_5555; LARGEST.table_words()];
+    log[listed.len() + 1] += 1;
+    assert_eq!(herd::read_log(&log, &mut table), Read::Refused(14));
+    assert!(table.iter().all(|&word| word == 0x5555_5555));
+    log[listed.len() + 1] -= 1;
+    assert_eq!(herd::read_log(&log, &mut table), Read::Contacts(8));
+    let cells = model::minimal_intervals(LARGEST, &listed.into());
+    same_table(&table, LARGEST, &cells, "largest");
+    let joined = &cells[LARGEST.pair(3, 255)];
+    assert_eq!(joined, &[Interval::new(1, 1025)]);
+}
+
+#[test]
+fn writing_a_log() {
+    let (memory, listed) = asked();
+    let table = &memory[..memory.len() - 1];
+    let sorted: Contacts = listed.into();
+    let log = words::log(LARGEST, sorted);
+    for room in [0, 1, 6, 7, 8, 47] {
+        let mut buffer = vec![9; room];
+        let answer = herd::write_log(table, &mut buffer);
+        if room < 7 {
+            assert_eq!(answer, Written::Refused(15), "{room}");
+            assert_eq!(buffer, vec![9; room]);
+        } else {
+            assert_eq!(answer, Written::Written(7), "{room}");
+            same_words(&buffer[..7], &log, room);
+            assert!(buffer[7..].iter().all(|&word| word == 9));
+        }
+    }
+    let cells = model::minimal_intervals(LARGEST, &listed.into());
+    same_table(table, LARGEST, &cells, "written");
+}
+
+#[test]
+fn every_legal_contact() {
+    let mut table = vec![0; LARGEST.table_words()];
+    table[0] = words::opening_word(LARGEST);
+    for u in 0..256 {
+        for v in 0..256 {
+            let start = LARGEST.cell_start(u, v);
+            table[start] = words::count_word(if u == v { 0 } else { 1024 });
+            for t in (1..=1024).filter(|_| u != v) {
+                let interval = Contact::new(u, v, t).interval(LARGEST.carry);
+                table[start + t as usize] = words::interval_word(interval);
+            }
+        }
+    }
+    let contacts = 256 * 255 * 1024;
+    let mut buffer = vec![0x5555_5555; contacts + 3];
+    let answer = herd::write_log(&table, &mut buffer[..contacts + 1]);
+    assert_eq!(answer, Written::Refused(15));
+    assert!(buffer.iter().all(|&word| word == 0x5555_5555));
+    let answer = herd::write_log(&table, &mut buffer);
+    assert_eq!(answer, Written::Written(contacts as u32 + 2));
+    assert_eq!(buffer[0], words::opening_word(LARGEST));
+    let end = words::end_word(contacts as u32);
+    assert_eq!(buffer[contacts + 1..], [end, 0x5555_5555]);
+    let mut place = 1;
+    for t in 1..=1024 {
+        for u in 0..256 {
+            for v in (0..256).filter(|&v| v != u) {
+                let word = words::contact_word(Contact::new(u, v, t));
+                assert_eq!(buffer[place], word, "{u} {v} {t}");
+                place += 1;
+            }
+        }
+    }
+    assert_eq!(herd::add(&mut table, 255, 254, 1024), Added::Known(0));
+    assert_eq!(herd::connected(&table, 1024, 1280), Answer::Yes);
+    assert_eq!(herd::connected(&table, 1024, 1279), Answer::No);
+    let mut set = [0; 8];
+    let reached = herd::reached(&table, 77, 512, 768, &mut set);
+    assert_eq!(reached, Reached::Animals(255));
+    let mut all_but_77 = [u32::MAX; 8];
+    all_but_77[77 / 32] ^= 1 << (77 % 32);
+    assert_eq!(set, all_but_77);
+    let reached = herd::reached(&table, 77, 512, 767, &mut set);
+    assert_eq!((reached, set), (Reached::Animals(0), [0; 8]));
+    assert_eq!(herd::earliest(&table, 255, 254, 1024), Tick::At(1280));
+    assert_eq!(herd::earliest(&table, 255, 254, 1025), Tick::Nothing);
+    assert_eq!(herd::latest(&table, 0, 255, 1280), Tick::At(1024));
+    assert_eq!(herd::latest(&table, 0, 255, 256), Tick::Nothing);
+    let chain = herd::chain(&table, 255, 0, 700, 956, &mut buffer);
+    assert_eq!(chain, Chain::Contacts(1));
+    let way = words::contact_word(Contact::new(255, 0, 700));
+    assert_eq!(buffer[0], way);
+    assert_eq!(herd::claimed(&table, 255, 0, 700, 956, &[way]), Answer::Yes);
 }

@@ -1,12 +1,15 @@
-//! The plain search and the naive rule themselves, on document 01's cases and against each other.
+//! The plain search and the rule on stored intervals themselves, on document 01's cases and against each other.
 
-use herd::testing::calls::accepted;
-use herd::testing::model::{self, Contacts};
+use herd::testing::calls::{self, Known};
+use herd::testing::cases;
+use herd::testing::contents::Contents;
+use herd::testing::model::{self, Contacts, Journeys};
 use herd::testing::random::Random;
+use herd::testing::rule::Stored;
+use herd::testing::suite::lent::Lent;
+use herd::testing::suite::reply::Export;
 use herd::testing::words::{self, Contact, Interval, Opening};
-use herd::testing::{calls, cases, rule};
-use herd::Added;
-use herd::Read;
+use herd::{Added, Read};
 
 /// The contacts of document 01's session.
 fn session() -> Contacts {
@@ -108,36 +111,143 @@ fn search_finds_what_listing_every_journey_finds() {
 }
 
 #[test]
-fn search_from_a_tick_finds_what_listing_every_journey_finds() {
+fn answers_are_those_of_listing_every_journey() {
     let mut random = Random::new(203);
-    for _ in 0..2_000 {
+    for _ in 0..1_000 {
         let opening = Opening::new(
-            random.between(2, 4),
+            random.between(1, 4),
             random.between(1, 5),
             random.between(1, 7),
         );
-        let number = random.below(10);
-        let contacts: Contacts = (0..number)
-            .map(|_| cases::contact(&mut random, opening))
-            .collect();
+        let contacts = cases::log_contacts(&mut random, opening, 9);
+        let contacts: Contacts = contacts.into_iter().collect();
         let mut journeys = Vec::new();
         for &first in &contacts {
             follow(opening, &contacts, first, first, &mut journeys);
         }
-        for x in 0..opening.animals {
-            for first in 0..=opening.last_arrival() + 1 {
-                let found = model::arrivals_from(opening, &contacts, x, first);
-                for y in 0..opening.animals {
-                    let listed = journeys
-                        .iter()
-                        .filter(|j| (j.0, j.1) == (x, y) && j.2.departure >= first);
-                    let expected = listed.map(|j| j.2.arrival).min();
+        let found = Journeys::new(opening, contacts.clone());
+        let (n, end) = (opening.animals, opening.last_arrival());
+        let between = |x, y| journeys.iter().filter(move |j| (j.0, j.1) == (x, y));
+        let departs = |first| move |i: &&(u32, u32, Interval)| i.2.departure >= first;
+        let arrives = |last| move |i: &&(u32, u32, Interval)| i.2.arrival <= last;
+        for first in 1..=end {
+            for last in first..=end {
+                let (window, case) = (Interval::new(first, last), (opening, &contacts));
+                let mut pairs = 0;
+                for x in 0..n {
+                    let reached: Vec<u32> = (0..n)
+                        .filter(|&y| y != x)
+                        .filter(|&y| {
+                            between(x, y)
+                                .filter(departs(first))
+                                .any(|i| arrives(last)(&i))
+                        })
+                        .collect();
+                    assert_eq!(found.reached(x, window), reached, "{case:?} {window:?}");
+                    for y in (0..n).filter(|&y| y != x) {
+                        let reaches = reached.contains(&y);
+                        assert_eq!(found.reaches(x, y, window), reaches, "{case:?} {window:?}");
+                    }
+                    pairs += reached.len();
+                }
+                let all = pairs == (n * (n - 1)) as usize;
+                assert_eq!(found.connects(window), all, "{case:?} {window:?}");
+            }
+            for x in 0..n {
+                for y in (0..n).filter(|&y| y != x) {
                     let case = (opening, &contacts, x, y, first);
-                    assert_eq!(found[y as usize], expected, "{case:?}");
+                    let departing = between(x, y).filter(departs(first));
+                    let earliest = departing.map(|j| j.2.arrival).min();
+                    assert_eq!(found.earliest(x, y, first), earliest, "{case:?}");
+                    let arriving = between(x, y).filter(arrives(first));
+                    let latest = arriving.map(|j| j.2.departure).max();
+                    assert_eq!(found.latest(x, y, first), latest, "{case:?}");
                 }
             }
         }
     }
+}
+
+#[test]
+fn claimed_chains_are_those_of_listing_every_journey() {
+    let mut random = Random::new(205);
+    let (mut yes, mut no) = (0, 0);
+    for _ in 0..300 {
+        let opening = Opening::new(random.between(2, 3), random.between(2, 4), 1);
+        let contacts = cases::log_contacts(&mut random, opening, 6);
+        let contacts: Contacts = contacts.into_iter().collect();
+        let legal = cases::legal_contacts(opening);
+        let found = Journeys::new(opening, contacts.clone());
+        let window = Interval::new(random.between(1, 2), opening.last_arrival());
+        for _ in 0..200 {
+            let length = random.below(4);
+            let claim: Vec<Contact> = (0..length).map(|_| random.one_of(&legal)).collect();
+            let (u, v) = cases::pair(&mut random, opening);
+            let mut at = Some((u, window.departure));
+            for contact in &claim {
+                let leaves = |&(x, tick): &(u32, u32)| contact.from == x && contact.tick >= tick;
+                let taken = at.filter(leaves).filter(|_| contacts.contains(contact));
+                at = taken.map(|_| (contact.to, contact.tick + opening.carry));
+            }
+            let ends = at.is_some_and(|(x, tick)| x == v && tick <= window.arrival);
+            let expected = ends && !claim.is_empty();
+            let spelled = found.spells(u, v, window, &words::contact_words(&claim));
+            assert_eq!(spelled, expected, "{opening:?} {contacts:?} {claim:?}");
+            (yes, no) = (yes + u32::from(spelled), no + u32::from(!spelled));
+        }
+    }
+    assert!(yes > 500 && no > 5_000, "{yes} {no}");
+}
+
+#[test]
+fn search_and_rule_answer_alike() {
+    let mut random = Random::new(1024);
+    let (mut chains, mut found) = (0, 0);
+    for _ in 0..1_500 {
+        let opening = cases::opening_with_time(&mut random);
+        let contacts: Contacts = cases::crowded_contacts(&mut random, opening)
+            .into_iter()
+            .collect();
+        let lent = Lent::fresh(opening, contacts.clone());
+        let (searched, ruled) = (&lent.known, Known::by_words(&lent.words));
+        for export in Export::ON_OPEN_TABLES {
+            for _ in 0..12 {
+                let call = lent.draw(&mut random, export);
+                let outcome = call.expected(&lent.words, searched);
+                assert_eq!(outcome, call.expected(&lent.words, &ruled), "{call:?}");
+            }
+        }
+        let journeys = Journeys::new(opening, contacts);
+        for _ in 0..40 {
+            let (u, v) = cases::pair(&mut random, opening);
+            let first = random.between(1, opening.last_arrival());
+            let window = Interval::new(first, random.between(first, opening.last_arrival()));
+            let chain = journeys.chain(u, v, window);
+            assert_eq!(chain.is_some(), journeys.reaches(u, v, window));
+            if let Some(chain) = chain {
+                is_the_chain(&journeys, &chain, (u, v), window);
+                chains += u32::from(chain.len() > 1);
+            }
+            found += u32::from(journeys.earliest(u, v, first).is_some());
+        }
+    }
+    assert!(chains > 500 && found > 5_000, "{chains} {found}");
+}
+
+/// Fails unless the contacts form a journey of the set between the pair, with the earliest arrival in the window and the
+/// latest departure to it, of at most n−1 contacts.
+fn is_the_chain(journeys: &Journeys, chain: &[Contact], (u, v): (u32, u32), window: Interval) {
+    let opening = journeys.opening();
+    let case = (opening, journeys.contacts(), chain, window);
+    assert!(chain.iter().all(|&c| journeys.holds(c)), "{case:?}");
+    let taken = words::journey(opening.carry, chain).unwrap_or_else(|| panic!("{case:?}"));
+    let ends = (chain[0].from, chain[chain.len() - 1].to);
+    assert_eq!((ends, taken.fits(window)), ((u, v), true), "{case:?}");
+    let earliest = journeys.earliest(u, v, window.departure);
+    assert_eq!(earliest, Some(taken.arrival), "{case:?}");
+    let latest = journeys.latest(u, v, taken.arrival);
+    assert_eq!(latest, Some(taken.departure), "{case:?}");
+    assert!(chain.len() < opening.animals as usize, "{case:?}");
 }
 
 #[test]
@@ -146,20 +256,14 @@ fn rule_builds_what_the_search_finds() {
     for _ in 0..500 {
         let opening = cases::opening_with_pairs(&mut random);
         let mut contacts = Contacts::new();
-        let mut cells = model::minimal_intervals(opening, &contacts);
+        let mut stored = Stored::new(opening, vec![Vec::new(); opening.pairs()]);
         for _ in 0..random.below(30) {
             let contact = cases::contact(&mut random, opening);
-            let new = contacts.insert(contact);
-            let fresh = model::minimal_intervals(opening, &contacts);
-            let changed = model::changed_pairs(&cells, &fresh);
-            let (after, answer) = rule::add(opening, &cells, contact);
-            let expected = accepted(!new, changed);
-            assert_eq!(
-                (&after, answer),
-                (&fresh, expected),
-                "{opening:?} {contacts:?}"
-            );
-            cells = after;
+            let found = Journeys::new(opening, contacts.clone()).add(contact);
+            let ruled = stored.add(contact);
+            assert_eq!(ruled, found, "{opening:?} {contacts:?} {contact:?}");
+            contacts.insert(contact);
+            stored = Stored::new(opening, ruled.0);
         }
     }
 }

@@ -1,8 +1,12 @@
 //! Opening: the limits, the length and the order of the refusals.
 
-use herd::testing::calls;
-use herd::testing::compare::same_words;
 use herd::testing::random::Random;
+use herd::testing::suite::call::Call;
+use herd::testing::suite::draws;
+use herd::testing::suite::lent::Lent;
+use herd::testing::suite::reply::{Export, Reply};
+use herd::testing::suite::Suite;
+use herd::testing::words::Opening;
 use herd::Opened;
 
 /// Numbers of animals at and beyond the limits, with some whose square wraps in 32 bits.
@@ -34,27 +38,25 @@ fn lengths(animals: u32, ticks: u32) -> Vec<usize> {
 #[test]
 fn every_combination_at_the_limits() {
     let mut random = Random::new(101);
+    let mut suite = Suite::default();
     let filling = random.words(MOST as usize + 1);
-    let mut seen = [0; 5];
+    let any = Opening::new(1, 1, 1);
     for animals in ANIMALS {
         for ticks in TICKS {
-            for carry in CARRIES {
-                for length in lengths(animals, ticks) {
-                    let case = (animals, ticks, carry, length);
-                    let mut table = filling[..length].to_vec();
-                    let answer = herd::open(&mut table, animals, ticks, carry);
-                    let (expected, after) = calls::open(&filling[..length], animals, ticks, carry);
-                    assert_eq!(answer, expected, "{case:?}");
-                    same_words(&table, &after, case);
-                    match answer {
-                        Opened::Opened => seen[0] += 1,
-                        Opened::Refused(number) => seen[number as usize] += 1,
-                    }
+            for length in lengths(animals, ticks) {
+                let lent = Lent::words(any, filling[..length].to_vec());
+                for carry in CARRIES {
+                    let call = Call::Open {
+                        animals,
+                        ticks,
+                        carry,
+                    };
+                    suite.compare(&lent, &call);
                 }
             }
         }
     }
-    assert!(seen.iter().all(|&times| times >= 40), "{seen:?}");
+    suite.at_least(40, &[Export::Open], &[1, 2, 3, 4]);
 }
 
 #[test]
@@ -85,14 +87,14 @@ fn refusals_come_in_order() {
 #[test]
 fn opening_again_empties_a_table() {
     let mut random = Random::new(102);
-    for _ in 0..200 {
-        let opening = herd::testing::cases::opening(&mut random);
-        let cells = herd::testing::cases::cells(&mut random, opening);
-        let mut table = herd::testing::words::table(opening, &cells);
-        let (n, ticks, carry) = (opening.animals, opening.ticks, random.between(1, 256));
-        let (expected, after) = calls::open(&table, n, ticks, carry);
-        assert_eq!(herd::open(&mut table, n, ticks, carry), expected);
-        assert_eq!(expected, Opened::Opened);
-        same_words(&table, &after, (opening, carry));
+    let mut suite = Suite::default();
+    for _ in 0..400 {
+        let lent = draws::stored(&mut random);
+        let call = Call::Open {
+            animals: lent.opening.animals,
+            ticks: lent.opening.ticks,
+            carry: random.between(1, 256),
+        };
+        suite.require(&lent, &call, Reply::Opened);
     }
 }

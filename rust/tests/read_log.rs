@@ -1,69 +1,30 @@
-//! Reading logs, against the plain search over contacts and against document 01's text.
+//! Reading logs: orders and repeats of contacts, and wrong words at every place.
 
+use herd::testing::cases;
 use herd::testing::compare::{same_table, same_words};
-use herd::testing::guard::{Guarded, Place};
 use herd::testing::model::{self, Contacts};
 use herd::testing::random::Random;
+use herd::testing::suite::call::Call;
+use herd::testing::suite::lent::Lent;
+use herd::testing::suite::reply::{Export, Reply};
+use herd::testing::suite::Suite;
 use herd::testing::words::{self, Cells, Contact, Interval, Opening};
-use herd::testing::{calls, cases};
-use herd::{read_log, write_log, Read, Written};
-use herd::{Added, Opened};
+use herd::{read_log, write_log, Added, Opened, Read, Written};
 use std::collections::BTreeMap;
-use std::fmt::Debug;
 
-/// How often each answer was met: a refusal at its number, a log that was read at 0.
-#[derive(Debug, Default)]
-struct Met([u32; 16]);
+/// The refusals of reading a log.
+const REFUSALS: [u32; 5] = [4, 11, 12, 13, 14];
 
-impl Met {
-    /// Counts the answer.
-    fn note(&mut self, answer: Read) {
-        match answer {
-            Read::Contacts(_) => self.0[0] += 1,
-            Read::Refused(number) => self.0[number as usize] += 1,
-        }
-    }
-
-    /// Fails where one of these answers was met less often.
-    #[track_caller]
-    fn at_least(&self, times: u32, answers: &[usize]) {
-        let often = |&answer: &usize| self.0[answer] >= times;
-        assert!(answers.iter().all(often), "{answers:?} in {self:?}");
-    }
-}
-
-/// Reads the log into a copy of the words: the answer and every word as document 01 has them.
+/// Reads the log into a copy of the words, and compares.
 #[track_caller]
-fn compare(log: &[u32], before: &[u32], case: impl Debug) -> Read {
-    let (expected, after) = calls::read_log(log, before);
-    let (kept, mut table) = (log.to_vec(), before.to_vec());
-    let answer = read_log(log, &mut table);
-    assert_eq!(answer, expected, "{case:?}: {log:08X?}");
-    same_words(&table, &after, &case);
-    same_words(log, &kept, &case);
-    answer
+fn compare(suite: &mut Suite, log: &[u32], before: Vec<u32>) -> Reply {
+    let lent = Lent::words(Opening::new(1, 1, 1), before);
+    suite.compare(&lent, &Call::ReadLog { log: log.to_vec() })
 }
 
 /// The set of the listed contacts.
 fn set(contacts: &[Contact]) -> Contacts {
     contacts.iter().copied().collect()
-}
-
-/// The contacts of these numbers, in this order.
-fn listed(numbers: &[(u32, u32, u32)]) -> Vec<Contact> {
-    let contact = |&(u, v, t): &(u32, u32, u32)| Contact::new(u, v, t);
-    numbers.iter().map(contact).collect()
-}
-
-/// A longer opening, with a carry time above the ticks now and then.
-fn longer_opening(random: &mut Random) -> Opening {
-    let carries = [
-        random.between(1, 2),
-        random.between(1, 9),
-        random.between(40, 256),
-    ];
-    let carry = random.one_of(&carries);
-    Opening::new(random.between(2, 12), random.between(10, 40), carry)
 }
 
 /// The words that a table of this opening's length may hold before the call.
@@ -108,6 +69,7 @@ fn joins(opening: Opening, cells: &Cells) -> bool {
 
 /// Reads the contacts in several orders into tables that held several things.
 fn compare_orders(
+    suite: &mut Suite,
     random: &mut Random,
     opening: Opening,
     contacts: &[Contact],
@@ -116,8 +78,8 @@ fn compare_orders(
     let different = set(contacts);
     for order in orders(random, contacts) {
         let before = held_before(random, opening);
-        let answer = compare(&words::log(opening, order), &before, opening);
-        assert_eq!(answer, Read::Contacts(different.len() as u32));
+        let reply = compare(suite, &words::log(opening, order), before);
+        assert_eq!(reply, Reply::Read(different.len() as u32), "{opening:?}");
     }
     let cells = model::minimal_intervals(opening, &different);
     for (name, has) in [
@@ -135,84 +97,14 @@ fn compare_orders(
 }
 
 #[test]
-fn session_of_document_01() {
-    let log = [
-        0x800C_0005,
-        0x4000_0400,
-        0x4000_0401,
-        0x4004_0C03,
-        0xC000_0003,
-    ];
-    let mut expected = vec![0; 113];
-    expected[0] = 0x800C_0005;
-    for cell in expected[1..].chunks_mut(7) {
-        cell[0] = 0xC000_0000;
-    }
-    expected[8..11].copy_from_slice(&[0xC000_0002, 0x4000_0802, 0x4000_1003]);
-    expected[22..24].copy_from_slice(&[0xC000_0001, 0x4000_1005]);
-    expected[50..52].copy_from_slice(&[0xC000_0001, 0x4000_2005]);
-    let mut random = Random::new(901);
-    for order in [
-        [1, 2, 3],
-        [1, 3, 2],
-        [2, 1, 3],
-        [2, 3, 1],
-        [3, 1, 2],
-        [3, 2, 1],
-    ] {
-        let mut table = random.words(113);
-        let [a, b, c] = order.map(|place| log[place]);
-        let answer = read_log(&[log[0], a, b, c, log[4]], &mut table);
-        assert_eq!(answer, Read::Contacts(3), "{order:?}");
-        same_words(&table, &expected, order);
-        let repeated = [log[0], a, b, b, c, a, a, 0xC000_0006];
-        table = random.words(113);
-        assert_eq!(read_log(&repeated, &mut table), Read::Contacts(3));
-        same_words(&table, &expected, order);
-    }
-}
-
-/// The intervals of the pair (x, y) after the log of these contacts is read.
-fn pair_read(
-    opening: Opening,
-    contacts: &[(u32, u32, u32)],
-    (x, y): (u32, u32),
-) -> Vec<(u32, u32)> {
-    let mut table = vec![7; opening.table_words()];
-    let answer = read_log(&words::log(opening, listed(contacts)), &mut table);
-    assert_eq!(answer, Read::Contacts(contacts.len() as u32));
-    let start = opening.cell_start(x, y);
-    let rows = words::read_count(table[start]).expect("a count word") as usize;
-    let intervals = table[start + 1..start + 1 + rows].iter();
-    let numbers = |&word: &u32| {
-        let interval = words::read_interval(word).expect("an interval word");
-        (interval.departure, interval.arrival)
-    };
-    intervals.map(numbers).collect()
-}
-
-#[test]
-fn marked_cells_of_document_01() {
-    let session = [(0, 1, 1), (0, 1, 2), (1, 3, 4)];
-    for (carry, cell) in [(1, (2, 5)), (2, (2, 6)), (3, (1, 7))] {
-        let opening = Opening::new(4, 6, carry);
-        assert_eq!(pair_read(opening, &session, (0, 3)), [cell]);
-    }
-    let five = [(0, 2, 1), (2, 3, 2), (0, 1, 1), (1, 3, 4), (3, 4, 6)];
-    let opening = Opening::new(5, 6, 1);
-    assert_eq!(pair_read(opening, &five, (0, 3)), [(1, 3)]);
-    assert_eq!(pair_read(opening, &five, (0, 4)), [(1, 7)]);
-}
-
-#[test]
 fn small_logs_in_many_orders() {
     let mut random = Random::new(902);
-    let mut met = BTreeMap::new();
+    let (mut suite, mut met) = (Suite::default(), BTreeMap::new());
     let mut alone = 0;
     for _ in 0..1_500 {
         let opening = cases::opening(&mut random);
         let contacts = cases::log_contacts(&mut random, opening, 40);
-        compare_orders(&mut random, opening, &contacts, &mut met);
+        compare_orders(&mut suite, &mut random, opening, &contacts, &mut met);
         alone += u32::from(opening.animals == 1);
     }
     assert!(met.values().all(|&times| times > 100), "{met:?}");
@@ -222,12 +114,12 @@ fn small_logs_in_many_orders() {
 #[test]
 fn longer_logs_in_many_orders() {
     let mut random = Random::new(903);
-    let mut met = BTreeMap::new();
+    let (mut suite, mut met) = (Suite::default(), BTreeMap::new());
     for _ in 0..150 {
-        let opening = longer_opening(&mut random);
+        let opening = cases::longer_opening(&mut random);
         let most = random.one_of(&[10, 60, 400]);
         let contacts = cases::log_contacts(&mut random, opening, most);
-        compare_orders(&mut random, opening, &contacts, &mut met);
+        compare_orders(&mut suite, &mut random, opening, &contacts, &mut met);
     }
     met.remove("no contact");
     assert!(met.values().all(|&times| times > 30), "{met:?}");
@@ -281,7 +173,7 @@ fn every_order_leaves_the_same_table() {
 fn shuffled_and_repeated_logs_leave_the_same_table() {
     let mut random = Random::new(905);
     for _ in 0..200 {
-        let opening = longer_opening(&mut random);
+        let opening = cases::longer_opening(&mut random);
         let mut contacts = cases::log_contacts(&mut random, opening, 300);
         let mut first = random.words(opening.table_words());
         let answer = read_log(&words::log(opening, contacts.clone()), &mut first);
@@ -301,6 +193,7 @@ fn shuffled_and_repeated_logs_leave_the_same_table() {
 #[test]
 fn logs_without_contacts() {
     let mut random = Random::new(906);
+    let mut suite = Suite::default();
     for (animals, ticks, carry) in [
         (1, 1, 1),
         (1, 1, 256),
@@ -316,8 +209,8 @@ fn logs_without_contacts() {
         assert_eq!(log.len(), 2);
         let full = words::table(opening, &cases::full_cells(opening));
         for before in [random.words(full.len()), full] {
-            let answer = compare(&log, &before, opening);
-            assert_eq!(answer, Read::Contacts(0), "{opening:?}");
+            let reply = compare(&mut suite, &log, before);
+            assert_eq!(reply, Reply::Read(0), "{opening:?}");
         }
     }
 }
@@ -355,7 +248,7 @@ fn written_logs_give_the_table_back() {
     let mut random = Random::new(908);
     for turn in 0..2_000 {
         let opening = if turn % 10 == 0 {
-            longer_opening(&mut random)
+            cases::longer_opening(&mut random)
         } else {
             cases::opening(&mut random)
         };
@@ -630,14 +523,22 @@ const MOVED: [(&str, u32, Moved); 17] = [
 ];
 
 /// Reads a wrong log into a table of the right length, and requires the refusal.
-fn refuse(good: &Good, random: &mut Random, log: &[u32], number: u32, name: &str) {
-    let answer = compare(log, &good.table(random), name);
-    assert_eq!(answer, Read::Refused(number), "{name}: {log:08X?}");
+fn refuse(
+    suite: &mut Suite,
+    good: &Good,
+    random: &mut Random,
+    log: &[u32],
+    number: u32,
+    name: &str,
+) {
+    let reply = compare(suite, log, good.table(random));
+    assert_eq!(reply, Reply::Refused(number), "{name}: {log:08X?}");
 }
 
 #[test]
 fn chosen_words_are_refused() {
     let mut random = Random::new(911);
+    let mut suite = Suite::default();
     for _ in 0..1_500 {
         let good = Good::drawn(&mut random);
         for (number, wrongs) in [
@@ -653,12 +554,12 @@ fn chosen_words_are_refused() {
                     _ => good.between(&mut random),
                 };
                 let log = good.with(place, wrong(&good, &mut random));
-                refuse(&good, &mut random, &log, number, name);
+                refuse(&mut suite, &good, &mut random, &log, number, name);
             }
         }
         for (name, number, moved) in MOVED {
             let log = moved(&good, &mut random);
-            refuse(&good, &mut random, &log, number, name);
+            refuse(&mut suite, &good, &mut random, &log, number, name);
         }
     }
 }
@@ -666,13 +567,14 @@ fn chosen_words_are_refused() {
 #[test]
 fn every_place_between_is_judged() {
     let mut random = Random::new(912);
+    let mut suite = Suite::default();
     for _ in 0..300 {
         let good = Good::drawn(&mut random);
         for place in 1..good.last() {
             for (number, wrongs) in [(12, &BETWEEN_12[..]), (13, &BETWEEN_13)] {
                 for (name, wrong) in wrongs {
                     let log = good.with(place, wrong(&good, &mut random));
-                    refuse(&good, &mut random, &log, number, name);
+                    refuse(&mut suite, &good, &mut random, &log, number, name);
                 }
             }
         }
@@ -682,19 +584,20 @@ fn every_place_between_is_judged() {
 #[test]
 fn an_interval_word_is_read_as_the_contact_of_its_bits() {
     let opening = Opening::new(4, 6, 1);
+    let mut suite = Suite::default();
     let before = Random::new(913).words(opening.table_words());
-    for (departure, arrival, answer) in [
-        (1, 2, Read::Contacts(1)),
-        (1, 7, Read::Refused(13)),
-        (2, 3, Read::Refused(13)),
-        (0, 1024, Read::Contacts(1)),
-        (0, 0, Read::Refused(13)),
-        (128, 0, Read::Contacts(1)),
+    for (departure, arrival, expected) in [
+        (1, 2, Reply::Read(1)),
+        (1, 7, Reply::Refused(13)),
+        (2, 3, Reply::Refused(13)),
+        (0, 1024, Reply::Read(1)),
+        (0, 0, Reply::Refused(13)),
+        (128, 0, Reply::Read(1)),
     ] {
         let word = words::interval_word(Interval::new(departure, arrival));
         let log = [words::opening_word(opening), word, words::end_word(1)];
-        let found = compare(&log, &before, (departure, arrival));
-        assert_eq!(found, answer, "{departure} {arrival}");
+        let reply = compare(&mut suite, &log, before.clone());
+        assert_eq!(reply, expected, "{departure} {arrival}");
     }
 }
 
@@ -774,30 +677,27 @@ fn defective(good: &Good, random: &mut Random, defects: Defects) -> (Vec<u32>, V
 #[test]
 fn checks_run_in_order() {
     let mut random = Random::new(914);
-    let mut met = Met::default();
+    let mut suite = Suite::default();
     let every = Defects::all();
     for _ in 0..400 {
         let good = Good::drawn(&mut random);
         for &defects in &every {
             let (log, table) = defective(&good, &mut random, defects);
-            let answer = compare(&log, &table, defects);
-            let expected = defects.refusal().map_or(
-                Read::Contacts(set(&good.contacts).len() as u32),
-                Read::Refused,
-            );
-            assert_eq!(answer, expected, "{defects:?}");
-            met.note(answer);
+            let reply = compare(&mut suite, &log, table);
+            let read = Reply::Read(set(&good.contacts).len() as u32);
+            let expected = defects.refusal().map_or(read, Reply::Refused);
+            assert_eq!(reply, expected, "{defects:?}");
         }
     }
-    met.at_least(400, &[0, 4, 11, 12, 13, 14]);
+    suite.at_least(400, &[Export::ReadLog], &REFUSALS);
 }
 
 /// The refusal that flipping this bit of a log of so many words brings in any case.
-fn certain_refusal(place: usize, bit: u32, words: usize) -> Option<Read> {
+fn certain_refusal(place: usize, bit: u32, words: usize) -> Option<Reply> {
     match (place, bit) {
-        _ if place == words - 1 => Some(Read::Refused(14)),
-        (0, 26..) => Some(Read::Refused(11)),
-        (_, 26..) => Some(Read::Refused(12)),
+        _ if place == words - 1 => Some(Reply::Refused(14)),
+        (0, 26..) => Some(Reply::Refused(11)),
+        (_, 26..) => Some(Reply::Refused(12)),
         _ => None,
     }
 }
@@ -805,28 +705,26 @@ fn certain_refusal(place: usize, bit: u32, words: usize) -> Option<Read> {
 #[test]
 fn every_bit_of_small_logs() {
     let mut random = Random::new(915);
-    let mut met = Met::default();
+    let mut suite = Suite::default();
     for _ in 0..120 {
         let good = Good::drawn(&mut random);
         for place in 0..good.log.len() {
             for bit in 0..32 {
                 let log = good.with(place, good.log[place] ^ 1 << bit);
-                let case = (good.opening, place, bit);
-                let answer = compare(&log, &good.table(&mut random), case);
-                met.note(answer);
+                let reply = compare(&mut suite, &log, good.table(&mut random));
                 if let Some(certain) = certain_refusal(place, bit, log.len()) {
-                    assert_eq!(answer, certain, "{case:?}");
+                    assert_eq!(reply, certain, "{:?} {place} {bit}", good.opening);
                 }
             }
         }
     }
-    met.at_least(700, &[0, 4, 11, 12, 13, 14]);
+    suite.at_least(700, &[Export::ReadLog], &REFUSALS);
 }
 
 #[test]
 fn every_bit_of_the_opening_with_the_table_it_asks_for() {
     let mut random = Random::new(916);
-    let mut met = Met::default();
+    let mut suite = Suite::default();
     for _ in 0..200 {
         let good = Good::drawn(&mut random);
         for bit in 0..26 {
@@ -834,17 +732,17 @@ fn every_bit_of_the_opening_with_the_table_it_asks_for() {
             let asked = words::read_opening(log[0]).expect("an opening word");
             if asked.table_words() < 20_000 {
                 let before = random.words(asked.table_words());
-                met.note(compare(&log, &before, (good.opening, bit)));
+                compare(&mut suite, &log, before);
             }
         }
     }
-    met.at_least(200, &[0, 13]);
+    suite.at_least(200, &[Export::ReadLog], &[13]);
 }
 
 #[test]
 fn random_damage() {
     let mut random = Random::new(917);
-    let mut met = Met::default();
+    let mut suite = Suite::default();
     for _ in 0..60_000 {
         let opening = cases::opening(&mut random);
         let contacts = cases::log_contacts(&mut random, opening, 12);
@@ -853,38 +751,39 @@ fn random_damage() {
         if random.once_in(10) {
             table.pop();
         }
-        met.note(compare(&log, &table, opening));
+        compare(&mut suite, &log, table);
     }
-    met.at_least(1_000, &[0, 4, 11, 12, 13, 14]);
+    suite.at_least(1_000, &[Export::ReadLog], &REFUSALS);
 }
 
 #[test]
 fn nothing_but_random_words() {
     let mut random = Random::new(918);
-    let mut met = Met::default();
+    let mut suite = Suite::default();
     for _ in 0..20_000 {
         let opening = cases::opening(&mut random);
         let before = random.words(opening.table_words());
         let length = random.below(12);
         let mut log = random.words(length);
-        met.note(compare(&log, &before, "any first word"));
+        compare(&mut suite, &log, before.clone());
         if log.len() < 2 {
             continue;
         }
         let last = log.len() - 1;
         log[0] = words::opening_word(opening);
-        met.note(compare(&log, &before, "an opening word"));
+        compare(&mut suite, &log, before.clone());
         log[1..last].fill_with(|| 0x4000_0000 | random.word() & 0x03FF_FFFF);
-        met.note(compare(&log, &before, "contact words"));
+        compare(&mut suite, &log, before.clone());
         log[last] = words::end_word(last as u32 - 1);
-        met.note(compare(&log, &before, "an end word"));
+        compare(&mut suite, &log, before.clone());
     }
-    met.at_least(1_000, &[0, 11, 12, 13, 14]);
+    suite.at_least(1_000, &[Export::ReadLog], &[11, 12, 13, 14]);
 }
 
 #[test]
 fn logs_of_no_word_one_and_two() {
     let mut random = Random::new(919);
+    let mut suite = Suite::default();
     let opening = Opening::new(3, 4, 2);
     let first = words::opening_word(opening);
     let contact = words::contact_word(Contact::new(0, 1, 1));
@@ -903,27 +802,27 @@ fn logs_of_no_word_one_and_two() {
     logs.extend(choices.map(|word| vec![word]));
     logs.extend(choices.iter().flat_map(|&a| choices.map(|b| vec![a, b])));
     let right = opening.table_words();
-    let mut met = Met::default();
     for log in &logs {
         for length in [0, 1, right - 1, right, right + 1] {
-            let answer = compare(log, &random.words(length), (log, length));
-            met.note(answer);
+            let reply = compare(&mut suite, log, random.words(length));
             let expected = match log[..] {
-                [a, _] if a == first && length != right => Read::Refused(4),
-                [a, b] if a == first && b == words::end_word(0) => Read::Contacts(0),
-                [a, _] if a == first => Read::Refused(14),
-                _ => Read::Refused(11),
+                [a, _] if a == first && length != right => Reply::Refused(4),
+                [a, b] if a == first && b == words::end_word(0) => Reply::Read(0),
+                [a, _] if a == first => Reply::Refused(14),
+                _ => Reply::Refused(11),
             };
-            assert_eq!(answer, expected, "{log:08X?} {length}");
+            assert_eq!(reply, expected, "{log:08X?} {length}");
         }
     }
-    assert_eq!((met.0[0], met.0[4], met.0[14]), (1, 36, 8), "{met:?}");
+    let met = |reply| suite.times(Export::ReadLog, |met| met == reply);
+    assert_eq!(met(Reply::Read(0)), 1);
+    assert_eq!((met(Reply::Refused(4)), met(Reply::Refused(14))), (36, 8));
 }
 
 #[test]
 fn tables_of_a_wrong_length() {
     let mut random = Random::new(920);
-    let mut met = Met::default();
+    let mut suite = Suite::default();
     for _ in 0..1_500 {
         let opening = cases::opening(&mut random);
         let contacts = cases::log_contacts(&mut random, opening, 12);
@@ -931,25 +830,24 @@ fn tables_of_a_wrong_length() {
         let right = opening.table_words();
         let any = random.below(2 * right);
         for length in [0, 1, right - 1, right, right + 1, right + 40, any] {
-            let answer = compare(&log, &random.words(length), (opening, length));
-            let refused = answer == Read::Refused(4);
+            let reply = compare(&mut suite, &log, random.words(length));
+            let refused = reply == Reply::Refused(4);
             assert_eq!(refused, length != right, "{opening:?} {length}");
-            met.note(answer);
         }
     }
-    met.at_least(1_500, &[0, 4]);
+    suite.at_least(1_500, &[Export::ReadLog], &[4]);
     let one = Opening::new(1, 7, 1);
     let two = Opening::new(2, 1, 1);
     assert_eq!(one.table_words(), two.table_words());
     let before = random.words(one.table_words());
     for opening in [one, two] {
-        let answer = compare(&words::log(opening, []), &before, opening);
-        assert_eq!(answer, Read::Contacts(0));
+        let reply = compare(&mut suite, &words::log(opening, []), before.clone());
+        assert_eq!(reply, Reply::Read(0));
     }
     for (animals, ticks) in [(2, 2), (3, 1), (1, 6), (1, 8), (256, 1024)] {
         let other = Opening::new(animals, ticks, 1);
-        let answer = compare(&words::log(other, []), &before, other);
-        assert_eq!(answer, Read::Refused(4), "{other:?}");
+        let reply = compare(&mut suite, &words::log(other, []), before.clone());
+        assert_eq!(reply, Reply::Refused(4), "{other:?}");
     }
 }
 
@@ -967,34 +865,17 @@ fn empty_slices() {
 #[test]
 fn a_damaged_table_is_no_matter() {
     let mut random = Random::new(921);
+    let mut suite = Suite::default();
     for _ in 0..3_000 {
         let opening = cases::opening(&mut random);
         let mut before = words::table(opening, &cases::cells(&mut random, opening));
         let place = random.below(before.len());
         before[random.one_of(&[0, place])] ^= 1 << random.between(0, 31);
         let contacts = cases::log_contacts(&mut random, opening, 12);
-        let number = Read::Contacts(set(&contacts).len() as u32);
-        let answer = compare(&words::log(opening, contacts), &before, opening);
-        assert_eq!(answer, number, "{opening:?}");
+        let number = Reply::Read(set(&contacts).len() as u32);
+        let reply = compare(&mut suite, &words::log(opening, contacts), before);
+        assert_eq!(reply, number, "{opening:?}");
     }
-}
-
-#[test]
-fn lengths_beyond_32_bits() {
-    let opening = Opening::new(2, 3, 1);
-    let log = words::log(opening, cases::legal_contacts(opening));
-    let right = opening.table_words();
-    let mut vast = Guarded::zero(Place::StartsAtGuard, right + (1 << 32));
-    assert_eq!(read_log(&log, &mut vast), Read::Refused(4));
-    assert!(vast[..200].iter().all(|&word| word == 0));
-    let mut vast = Guarded::zero(Place::StartsAtGuard, log.len() + (1 << 32));
-    vast[..log.len()].copy_from_slice(&log);
-    let mut table = vec![5; right];
-    assert_eq!(read_log(&vast, &mut table), Read::Refused(12));
-    assert_eq!(read_log(&vast, &mut table[1..]), Read::Refused(4));
-    vast[0] = 0;
-    assert_eq!(read_log(&vast, &mut table), Read::Refused(11));
-    assert_eq!(table, vec![5; right]);
 }
 
 #[test]
@@ -1020,34 +901,4 @@ fn logs_of_the_most_contact_words() {
     assert_eq!(read_log(&log[..most + 2], &mut table), Read::Contacts(2));
     let expected = model::fresh_table(opening, &set(&[one, other]));
     same_words(&table, &expected, "the most contact words");
-}
-
-#[test]
-fn the_largest_table() {
-    let opening = Opening::new(256, 1024, 256);
-    let length = opening.table_words();
-    assert_eq!(length, 67_174_401);
-    let contacts = listed(&[
-        (255, 254, 1024),
-        (254, 7, 257),
-        (7, 0, 513),
-        (0, 255, 769),
-        (3, 254, 1),
-        (254, 7, 1),
-        (7, 0, 512),
-        (7, 0, 513),
-        (255, 0, 1024),
-        (3, 254, 1),
-    ]);
-    let mut log = words::log(opening, contacts.clone());
-    let mut table = vec![0x5555_5555; length];
-    log[contacts.len() + 1] += 1;
-    assert_eq!(read_log(&log, &mut table), Read::Refused(14));
-    assert!(table.iter().all(|&word| word == 0x5555_5555));
-    log[contacts.len() + 1] -= 1;
-    assert_eq!(read_log(&log, &mut table), Read::Contacts(8));
-    let cells = model::minimal_intervals(opening, &set(&contacts));
-    same_table(&table, opening, &cells, "largest");
-    let joined = &cells[opening.pair(3, 255)];
-    assert_eq!(joined, &[Interval::new(1, 1025)]);
 }

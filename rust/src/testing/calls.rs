@@ -1,10 +1,10 @@
-//! What document 01 says of each call on any lent words: the answer, and the words afterwards.
+//! What document 01 says of each call: the answer, and the words afterwards.
 
 use crate::testing::check;
-use crate::testing::model::{self, Contacts};
-use crate::testing::rule;
-use crate::testing::words::{self, Contact, Opening};
-use crate::{Added, Answer, Chain, Opened, Read, Written};
+use crate::testing::contents::Contents;
+use crate::testing::model::{self, Contacts, Journeys};
+use crate::testing::words::{self, Interval, Opening, SET_WORDS};
+use crate::{Added, Answer, Chain, Opened, Reached, Read, Tick, Written};
 
 /// Opening over these words.
 pub fn open(table: &[u32], animals: u32, ticks: u32, carry: u32) -> (Opened, Vec<u32>) {
@@ -26,21 +26,6 @@ pub fn open(table: &[u32], animals: u32, ticks: u32, carry: u32) -> (Opened, Vec
     (Opened::Opened, words::table(opening, &empty))
 }
 
-/// Adding the contact (u, v, t) to the table of these words.
-pub fn add(table: &[u32], u: u32, v: u32, t: u32) -> (Added, Vec<u32>) {
-    let checked = check::open_table(table).and_then(|(opening, cells)| {
-        let contact = check::contact(opening, u, v, t)?;
-        Ok((opening, cells, contact))
-    });
-    match checked {
-        Err(number) => (Added::Refused(number), table.to_vec()),
-        Ok((opening, cells, contact)) => {
-            let (after, answer) = rule::add(opening, &cells, contact);
-            (answer, words::table(opening, &after))
-        }
-    }
-}
-
 /// Reading the log into the table of these words.
 pub fn read_log(log: &[u32], table: &[u32]) -> (Read, Vec<u32>) {
     let checked = check::log_opening(log).and_then(|opening| {
@@ -57,63 +42,168 @@ pub fn read_log(log: &[u32], table: &[u32]) -> (Read, Vec<u32>) {
     }
 }
 
-/// Writing the log of the table of these words into the buffer.
-pub fn write_log(table: &[u32], buffer: &[u32]) -> (Written, Vec<u32>) {
-    let mut after = buffer.to_vec();
-    let (opening, cells) = match check::open_table(table) {
-        Err(number) => return (Written::Refused(number), after),
-        Ok(read) => read,
-    };
-    let log = words::log(opening, check::held_contacts(opening, &cells));
-    if buffer.len() < log.len() {
-        return (Written::Refused(15), after);
-    }
-    after[..log.len()].copy_from_slice(&log);
-    (Written::Written(log.len() as u32), after)
+/// Adding the contact (u, v, t) to the table of these words.
+pub fn add(table: &[u32], u: u32, v: u32, t: u32) -> (Added, Vec<u32>) {
+    Known::by_words(table).add(table, u, v, t)
 }
 
 /// The reach question on the table of these words, which stay as they are.
 pub fn reach(table: &[u32], u: u32, v: u32, first: u32, last: u32) -> Answer {
-    let checked = check::open_table(table).and_then(|(opening, cells)| {
-        check::animals(opening, u, v)?;
-        let window = check::window(opening, first, last)?;
-        Ok(rule::fits(&cells[opening.pair(u, v)], window))
-    });
-    checked.map_or_else(Answer::Refused, answered)
+    Known::by_words(table).reach(u, v, first, last)
 }
 
-/// The chain question on the table of these words, which stay as they are, and the buffer's words afterwards.
-pub fn chain(
-    table: &[u32],
-    u: u32,
-    v: u32,
-    first: u32,
-    last: u32,
-    buffer: &[u32],
-) -> (Chain, Vec<u32>) {
-    let checked = check::open_table(table).and_then(|(opening, cells)| {
-        check::animals(opening, u, v)?;
-        let window = check::window(opening, first, last)?;
-        check::chain_buffer(opening, buffer)?;
-        Ok(rule::chain(opening, &cells, u, v, window))
-    });
-    chained(checked, buffer)
-}
+/// What is known of a table that a call is lent: what it holds, or the refusal of its words.
+pub struct Known(Result<Box<dyn Contents>, u32>);
 
-/// The answer, and the buffer's words after a chain, no journey or a refusal.
-pub fn chained(found: Result<Option<Vec<Contact>>, u32>, buffer: &[u32]) -> (Chain, Vec<u32>) {
-    let mut after = buffer.to_vec();
-    let answer = match found {
-        Err(number) => Chain::Refused(number),
-        Ok(None) => Chain::NoJourney,
-        Ok(Some(contacts)) => {
-            for (word, &contact) in after.iter_mut().zip(&contacts) {
-                *word = words::contact_word(contact);
-            }
-            Chain::Contacts(contacts.len() as u32)
+impl Known {
+    /// A table of any words, by document 01's text; its stored intervals stand for the journeys.
+    pub fn by_words(table: &[u32]) -> Known {
+        match check::open_table(table) {
+            Ok(stored) => Known(Ok(Box::new(stored))),
+            Err(number) => Known(Err(number)),
         }
-    };
-    (answer, after)
+    }
+
+    /// A table built from these contacts, by the plain search.
+    pub fn by_contacts(journeys: Journeys) -> Known {
+        Known(Ok(Box::new(journeys)))
+    }
+
+    /// What the table holds, or refusal 5 or 6.
+    pub fn contents(&self) -> Result<&dyn Contents, u32> {
+        match &self.0 {
+            Ok(contents) => Ok(contents.as_ref()),
+            Err(number) => Err(*number),
+        }
+    }
+
+    /// Adding the contact (u, v, t): the answer, and the table's words afterwards.
+    pub fn add(&self, table: &[u32], u: u32, v: u32, t: u32) -> (Added, Vec<u32>) {
+        let checked = self.contents().and_then(|contents| {
+            let contact = check::contact(contents.opening(), u, v, t)?;
+            Ok((contents.opening(), contents.add(contact)))
+        });
+        match checked {
+            Err(number) => (Added::Refused(number), table.to_vec()),
+            Ok((opening, (cells, answer))) => (answer, words::table(opening, &cells)),
+        }
+    }
+
+    /// Writing the log: the answer, and the buffer's words afterwards.
+    pub fn write_log(&self, buffer: &[u32]) -> (Written, Vec<u32>) {
+        let checked = self.contents().and_then(|contents| {
+            let log = words::log(contents.opening(), contents.held());
+            check::log_buffer(&log, buffer)?;
+            Ok(log)
+        });
+        match checked {
+            Err(number) => (Written::Refused(number), buffer.to_vec()),
+            Ok(log) => (Written::Written(log.len() as u32), over(&log, buffer)),
+        }
+    }
+
+    /// The reach question.
+    pub fn reach(&self, u: u32, v: u32, first: u32, last: u32) -> Answer {
+        let checked = self.pair_and_window(u, v, first, last);
+        let answer = |(contents, window): Legal| answered(contents.reaches(u, v, window));
+        checked.map_or_else(Answer::Refused, answer)
+    }
+
+    /// The earliest arrival from a first tick.
+    pub fn earliest(&self, u: u32, v: u32, first: u32) -> Tick {
+        let checked = self.pair_and_tick(u, v, first);
+        let answer = |contents: &dyn Contents| told(contents.earliest(u, v, first));
+        checked.map_or_else(Tick::Refused, answer)
+    }
+
+    /// The latest departure by a last tick.
+    pub fn latest(&self, u: u32, v: u32, last: u32) -> Tick {
+        let checked = self.pair_and_tick(u, v, last);
+        let answer = |contents: &dyn Contents| told(contents.latest(u, v, last));
+        checked.map_or_else(Tick::Refused, answer)
+    }
+
+    /// Whether every animal reaches every other one.
+    pub fn connected(&self, first: u32, last: u32) -> Answer {
+        let checked = self.contents().and_then(|contents| {
+            let window = check::window(contents.opening(), first, last)?;
+            Ok(contents.connects(window))
+        });
+        checked.map_or_else(Answer::Refused, answered)
+    }
+
+    /// The animals reached from `u`: the answer, and the words lent for the set afterwards.
+    pub fn reached(&self, u: u32, first: u32, last: u32, set: &[u32]) -> (Reached, Vec<u32>) {
+        let checked = self.contents().and_then(|contents| {
+            check::animal(contents.opening(), u)?;
+            let window = check::window(contents.opening(), first, last)?;
+            Ok(contents.reached(u, window))
+        });
+        match checked {
+            Err(number) => (Reached::Refused(number), set.to_vec()),
+            Ok(animals) => {
+                let room = set.len().min(SET_WORDS);
+                let after = over(&words::set(&animals)[..room], set);
+                (Reached::Animals(animals.len() as u32), after)
+            }
+        }
+    }
+
+    /// The chain question: the answer, and the buffer's words afterwards.
+    pub fn chain(
+        &self,
+        u: u32,
+        v: u32,
+        first: u32,
+        last: u32,
+        buffer: &[u32],
+    ) -> (Chain, Vec<u32>) {
+        let checked = self
+            .pair_and_window(u, v, first, last)
+            .and_then(|(contents, window)| {
+                check::chain_buffer(contents.opening(), buffer)?;
+                Ok(contents.chain(u, v, window))
+            });
+        match checked {
+            Err(number) => (Chain::Refused(number), buffer.to_vec()),
+            Ok(None) => (Chain::NoJourney, buffer.to_vec()),
+            Ok(Some(contacts)) => {
+                let after = over(&words::contact_words(&contacts), buffer);
+                (Chain::Contacts(contacts.len() as u32), after)
+            }
+        }
+    }
+
+    /// The check of a claimed chain.
+    pub fn claimed(&self, u: u32, v: u32, first: u32, last: u32, chain: &[u32]) -> Answer {
+        let checked = self.pair_and_window(u, v, first, last);
+        let answer = |(contents, window): Legal| answered(contents.spells(u, v, window, chain));
+        checked.map_or_else(Answer::Refused, answer)
+    }
+
+    /// What the table holds and the window, or the first of the refusals 5 to 9.
+    fn pair_and_window(&self, u: u32, v: u32, first: u32, last: u32) -> Result<Legal<'_>, u32> {
+        let contents = self.contents()?;
+        check::animals(contents.opening(), u, v)?;
+        let window = check::window(contents.opening(), first, last)?;
+        Ok((contents, window))
+    }
+
+    /// What the table holds, or the first of the refusals 5 to 9.
+    fn pair_and_tick(&self, u: u32, v: u32, tick: u32) -> Result<&dyn Contents, u32> {
+        let contents = self.contents()?;
+        check::animals(contents.opening(), u, v)?;
+        check::tick(contents.opening(), tick)?;
+        Ok(contents)
+    }
+}
+
+/// What a table holds, and a legal window.
+type Legal<'a> = (&'a dyn Contents, Interval);
+
+/// The words of the buffer when these are written to its start.
+fn over(written: &[u32], buffer: &[u32]) -> Vec<u32> {
+    [written, &buffer[written.len()..]].concat()
 }
 
 /// New or known, with the number of cells changed.
@@ -126,10 +216,15 @@ pub fn accepted(known: bool, cells: u32) -> Added {
 }
 
 /// Yes where it is so, else no.
-pub fn answered(so: bool) -> Answer {
+fn answered(so: bool) -> Answer {
     if so {
         Answer::Yes
     } else {
         Answer::No
     }
+}
+
+/// The tick, where there is one.
+fn told(tick: Option<u32>) -> Tick {
+    tick.map_or(Tick::Nothing, Tick::At)
 }

@@ -1,5 +1,6 @@
-//! Random openings, contacts, questions, logs and well-formed cells.
+//! Random openings, contacts, logs and well-formed cells.
 
+use crate::testing::model;
 use crate::testing::random::Random;
 use crate::testing::words::{Cells, Contact, Interval, Opening};
 
@@ -20,50 +21,32 @@ pub fn opening_with_pairs(random: &mut Random) -> Opening {
     }
 }
 
+/// A small opening with two animals or more, and often with time for several contacts.
+pub fn opening_with_time(random: &mut Random) -> Opening {
+    if random.once_in(2) {
+        return opening_with_pairs(random);
+    }
+    let carry = random.one_of(&[1, 1, 2]);
+    Opening::new(random.between(4, 8), random.between(7, 14), carry)
+}
+
+/// A longer opening with two animals or more, with a carry time above the ticks now and then.
+pub fn longer_opening(random: &mut Random) -> Opening {
+    let carries = [
+        random.between(1, 2),
+        random.between(1, 9),
+        random.between(40, 256),
+    ];
+    let carry = random.one_of(&carries);
+    Opening::new(random.between(2, 12), random.between(10, 40), carry)
+}
+
 /// A legal contact; there are two animals or more.
 pub fn contact(random: &mut Random, opening: Opening) -> Contact {
     let from = random.between(0, opening.animals - 1);
     let step = random.between(1, opening.animals - 1);
     let tick = random.between(1, opening.ticks);
     Contact::new(from, (from + step) % opening.animals, tick)
-}
-
-/// Three numbers that may or may not be a legal contact.
-pub fn numbers(random: &mut Random, opening: Opening) -> (u32, u32, u32) {
-    let beyond = random.one_of(&[opening.animals, 256, 1 << 18, u32::MAX]);
-    let late = random.one_of(&[0, opening.ticks + 1, 1025, u32::MAX]);
-    let animal = |random: &mut Random| {
-        if random.once_in(8) {
-            beyond
-        } else {
-            random.between(0, opening.animals - 1)
-        }
-    };
-    let (u, v) = (animal(random), animal(random));
-    let tick = if random.once_in(6) {
-        late
-    } else {
-        random.between(1, opening.ticks)
-    };
-    (u, v, tick)
-}
-
-/// A question's two animals and the first and last tick of its window.
-pub type Question = (u32, u32, u32, u32);
-
-/// Four numbers that may or may not be a legal question.
-pub fn question(random: &mut Random, opening: Opening) -> Question {
-    let end = opening.last_arrival();
-    let (u, v, _) = numbers(random, opening);
-    let (one, other) = (random.between(1, end), random.between(1, end));
-    let (first, last) = (one.min(other), one.max(other));
-    let outside = random.one_of(&[0, end + 1, end + 2, 2048, 1 << 31, u32::MAX]);
-    match random.below(16) {
-        0 => (u, v, outside, last),
-        1 => (u, v, first, outside),
-        2 => (u, v, last, first),
-        _ => (u, v, first, last),
-    }
 }
 
 /// Every legal contact, in log order.
@@ -115,6 +98,115 @@ fn rising(random: &mut Random, opening: Opening, departures: &[u32], slack: u32)
     }
     rows.reverse();
     rows
+}
+
+/// Contacts with few different ticks, in which animals are often met at once; none where there is one animal.
+pub fn crowded_contacts(random: &mut Random, opening: Opening) -> Vec<Contact> {
+    let most = random.one_of(&[10, 20, 60]);
+    let number = random.below(most) * usize::from(opening.animals > 1);
+    let step = random.between(1, 3);
+    let draw = |_| {
+        let mut contact = contact(random, opening);
+        contact.tick -= (contact.tick - 1) % step;
+        contact
+    };
+    (0..number).map(draw).collect()
+}
+
+/// Contacts of which each second one goes on from the last one met, so that there are long journeys; so many, and two
+/// animals or more.
+pub fn following_contacts(random: &mut Random, opening: Opening, number: usize) -> Vec<Contact> {
+    let (mut met, mut tick) = (random.between(0, opening.animals - 1), 1);
+    let mut contacts = Vec::new();
+    for _ in 0..number {
+        let mut drawn = contact(random, opening);
+        if random.once_in(2) && drawn.to != met && tick <= opening.ticks {
+            drawn = Contact::new(met, drawn.to, tick);
+        } else if random.once_in(8) {
+            drawn.tick = random.one_of(&[1, opening.ticks]);
+        }
+        met = drawn.to;
+        tick = drawn.tick + opening.carry + random.between(0, 1);
+        contacts.push(drawn);
+    }
+    random.shuffle(&mut contacts);
+    contacts
+}
+
+/// Cells near a closure: some rows are gone, and some others came in. There are two animals or more.
+pub fn cells_near_closure(random: &mut Random, opening: Opening) -> Cells {
+    let listed = crowded_contacts(random, opening);
+    let mut cells = model::minimal_intervals(opening, &listed.into_iter().collect());
+    for _ in 0..random.below(2 * opening.pairs()) {
+        let (u, v) = pair(random, opening);
+        let cell = &mut cells[opening.pair(u, v)];
+        if random.once_in(2) && !cell.is_empty() {
+            cell.remove(random.below(cell.len()));
+        } else {
+            let other = interval(random, opening);
+            insert(&mut cells, opening, (u, v), other);
+        }
+    }
+    cells
+}
+
+/// Cells in which most animals have one arrival at one goal, and held contacts lead from one to another, back or nowhere;
+/// and the goal. There are two animals or more.
+pub fn planted_cells(random: &mut Random, opening: Opening) -> (Cells, u32) {
+    let mut cells = vec![Vec::new(); opening.pairs()];
+    let mut order: Vec<u32> = (0..opening.animals).collect();
+    random.shuffle(&mut order);
+    let goal = order.pop().expect("an animal");
+    let latest = random.between(1.max(opening.ticks / 2), opening.ticks);
+    let sparse = random.between(1, 4) as usize;
+    let left_out = random.between(0, opening.animals);
+    let mut departures: Vec<u32> = order.iter().map(|_| random.between(1, latest)).collect();
+    departures.sort();
+    if let Some(last) = departures.last_mut().filter(|_| !random.once_in(4)) {
+        *last = latest;
+    }
+    for (i, (&x, &departure)) in order.iter().zip(&departures).enumerate() {
+        let kept = Interval::new(departure, latest + opening.carry);
+        if !random.once_in(8) {
+            insert(&mut cells, opening, (x, goal), kept);
+        }
+        let held = Interval::new(departure, departure + opening.carry);
+        for (j, &z) in order.iter().enumerate().filter(|&(j, _)| j != i) {
+            let often = if j == i + 1 { 1 } else { sparse };
+            if x != left_out && random.once_in(often) {
+                insert(&mut cells, opening, (x, z), held);
+            }
+        }
+    }
+    for _ in 0..random.below(opening.pairs()) {
+        let (u, v) = pair(random, opening);
+        let other = interval(random, opening);
+        insert(&mut cells, opening, (u, v), other);
+    }
+    (cells, goal)
+}
+
+/// Two different animals; there are two or more.
+pub fn pair(random: &mut Random, opening: Opening) -> (u32, u32) {
+    let contact = contact(random, opening);
+    (contact.from, contact.to)
+}
+
+/// An interval that a cell may have.
+fn interval(random: &mut Random, opening: Opening) -> Interval {
+    let departure = random.between(1, opening.ticks);
+    let arrival = random.between(departure + opening.carry, opening.last_arrival());
+    Interval::new(departure, arrival)
+}
+
+/// Puts the interval into the cell of the pair where departures and arrivals stay strictly rising.
+fn insert(cells: &mut Cells, opening: Opening, (u, v): (u32, u32), new: Interval) {
+    let cell = &mut cells[opening.pair(u, v)];
+    let apart = |i: &Interval| !i.within(new) && !new.within(*i);
+    if cell.iter().all(apart) {
+        cell.push(new);
+        cell.sort();
+    }
 }
 
 /// The contacts of a log, at most so many, in any order and with repeats; none where there is one animal.

@@ -1,9 +1,10 @@
 //! Document 01's checks of an open table, of a log and of a call's numbers, each with its refusal.
 
+use crate::testing::rule::Stored;
 use crate::testing::words::{self, Cells, Contact, Interval, Opening};
 
-/// The opening and the cells of a table, or refusal 5 or 6.
-pub fn open_table(table: &[u32]) -> Result<(Opening, Cells), u32> {
+/// What the words of an open table store, or refusal 5 or 6.
+pub fn open_table(table: &[u32]) -> Result<Stored, u32> {
     let first = table.first().ok_or(5u32)?;
     let opening = words::read_opening(*first).ok_or(5u32)?;
     if table.len() != opening.table_words() {
@@ -21,7 +22,7 @@ pub fn open_table(table: &[u32]) -> Result<(Opening, Cells), u32> {
             cells.push(cell);
         }
     }
-    Ok((opening, cells))
+    Ok(Stored::new(opening, cells))
 }
 
 /// The opening of a log, or refusal 11.
@@ -76,14 +77,32 @@ pub fn contact(opening: Opening, u: u32, v: u32, t: u32) -> Result<Contact, u32>
     }
 }
 
+/// An animal of a table with this opening, or refusal 7.
+pub fn animal(opening: Opening, u: u32) -> Result<(), u32> {
+    if u < opening.animals {
+        Ok(())
+    } else {
+        Err(7)
+    }
+}
+
 /// Two different animals of a table with this opening, or refusal 7 or 8.
 pub fn animals(opening: Opening, u: u32, v: u32) -> Result<(), u32> {
-    if u >= opening.animals || v >= opening.animals {
-        Err(7)
-    } else if u == v {
+    animal(opening, u)?;
+    animal(opening, v)?;
+    if u == v {
         Err(8)
     } else {
         Ok(())
+    }
+}
+
+/// A single tick of a question on a table with this opening, or refusal 9.
+pub fn tick(opening: Opening, tick: u32) -> Result<(), u32> {
+    if (1..=opening.last_arrival()).contains(&tick) {
+        Ok(())
+    } else {
+        Err(9)
     }
 }
 
@@ -106,21 +125,13 @@ pub fn chain_buffer(opening: Opening, buffer: &[u32]) -> Result<(), u32> {
     }
 }
 
-/// The contacts that the cells hold, in log order.
-pub fn held_contacts(opening: Opening, cells: &Cells) -> Vec<Contact> {
-    let mut held = Vec::new();
-    for u in 0..opening.animals {
-        for v in 0..opening.animals {
-            for interval in &cells[opening.pair(u, v)] {
-                let contact = Contact::new(u, v, interval.departure);
-                if contact.interval(opening.carry) == *interval {
-                    held.push(contact);
-                }
-            }
-        }
+/// A buffer for the log, or refusal 15.
+pub fn log_buffer(log: &[u32], buffer: &[u32]) -> Result<(), u32> {
+    if buffer.len() < log.len() {
+        Err(15)
+    } else {
+        Ok(())
     }
-    held.sort();
-    held
 }
 
 /// The intervals of one cell's words, or none where the cell is not well formed.

@@ -1,5 +1,6 @@
 //! Words in memory between pages that cannot be read or written (Linux).
 
+use std::cell::RefCell;
 use std::ffi::c_void;
 use std::ops::{Deref, DerefMut};
 use std::{ptr, slice};
@@ -40,10 +41,38 @@ pub enum Place {
 /// Both places.
 pub const PLACES: [Place; 2] = [Place::EndsAtGuard, Place::StartsAtGuard];
 
-/// Words that touch a guard.
-pub struct Guarded {
+/// Memory for the words that a call is lent.
+pub trait Memory: DerefMut<Target = [u32]> {
+    /// The same memory, lent for reading alone.
+    type Frozen: Deref<Target = [u32]>;
+
+    /// The same words, for reading alone from here on.
+    fn freeze(self) -> Self::Frozen;
+}
+
+/// Ordinary memory.
+impl Memory for Vec<u32> {
+    type Frozen = Vec<u32>;
+
+    fn freeze(self) -> Vec<u32> {
+        self
+    }
+}
+
+/// Memory between two guards.
+struct Area {
     base: *mut u8,
     inner: usize,
+}
+
+thread_local! {
+    /// Areas of the smallest size, which are used again.
+    static SPARE: RefCell<Vec<Area>> = const { RefCell::new(Vec::new()) };
+}
+
+/// Words that touch a guard.
+pub struct Guarded {
+    area: Option<Area>,
     first: *mut u32,
     words: usize,
 }
@@ -51,44 +80,84 @@ pub struct Guarded {
 /// Words that touch a guard and cannot be written.
 pub struct Frozen(Guarded);
 
+impl Area {
+    /// Memory of so many bytes between two guards.
+    fn new(inner: usize) -> Area {
+        let (whole, flags) = (inner + 2 * GUARD, PRIVATE_ANONYMOUS_AND_LAZY);
+        // SAFETY: fresh memory, of which nothing is known here.
+        let base = unsafe { mmap(ptr::null_mut(), whole, NONE, flags, -1, 0) };
+        assert_ne!(base as isize, -1, "mmap failed");
+        let area = Area {
+            base: base.cast(),
+            inner,
+        };
+        area.protect(READ_AND_WRITE);
+        area
+    }
+
+    /// Makes the memory between the guards readable or writable.
+    fn protect(&self, protection: i32) {
+        // SAFETY: the inner part of the memory that `new` took; nobody borrows it where writing is taken away.
+        let done = unsafe { mprotect(self.base.add(GUARD).cast(), self.inner, protection) };
+        assert_eq!(done, 0, "mprotect failed");
+    }
+}
+
+impl Drop for Area {
+    fn drop(&mut self) {
+        // SAFETY: the whole memory that `new` took, which nothing borrows any more.
+        unsafe { munmap(self.base.cast(), self.inner + 2 * GUARD) };
+    }
+}
+
 impl Guarded {
     /// A copy of the words at the place.
     pub fn new(place: Place, words: &[u32]) -> Guarded {
-        let mut copy = Guarded::zero(place, words.len());
+        let mut copy = Guarded::take(place, words.len());
         copy.copy_from_slice(words);
         copy
     }
 
     /// So many words at the place, each 0; they take memory only where they are touched.
     pub fn zero(place: Place, words: usize) -> Guarded {
+        let mut zero = Guarded::take(place, words);
+        if zero.area().inner == GUARD {
+            zero.fill(0);
+        }
+        zero
+    }
+
+    /// So many words at the place, with any words of before in an area of the smallest size.
+    fn take(place: Place, words: usize) -> Guarded {
         let bytes = words * size_of::<u32>();
         let inner = bytes.div_ceil(GUARD).max(1) * GUARD;
+        let spare = SPARE.with_borrow_mut(|spare| spare.pop_if(|area| area.inner == inner));
+        let area = spare.unwrap_or_else(|| Area::new(inner));
         let start = match place {
             Place::EndsAtGuard => GUARD + inner - bytes,
             Place::StartsAtGuard => GUARD,
         };
-        let (whole, flags) = (inner + 2 * GUARD, PRIVATE_ANONYMOUS_AND_LAZY);
-        // SAFETY: fresh memory of two guards and `inner` bytes; the words lie in the part made accessible.
-        unsafe {
-            let base = mmap(ptr::null_mut(), whole, NONE, flags, -1, 0).cast::<u8>();
-            assert_ne!(base as isize, -1, "mmap failed");
-            let opened = mprotect(base.add(GUARD).cast(), inner, READ_AND_WRITE);
-            assert_eq!(opened, 0, "mprotect failed");
-            let first = base.add(start).cast::<u32>();
-            Guarded {
-                base,
-                inner,
-                first,
-                words,
-            }
+        // SAFETY: the words lie between the guards of the area.
+        let first = unsafe { area.base.add(start).cast::<u32>() };
+        Guarded {
+            area: Some(area),
+            first,
+            words,
         }
     }
 
-    /// The same words, which cannot be written from here on.
-    pub fn freeze(self) -> Frozen {
-        // SAFETY: the inner part of the memory that `zero` took.
-        let frozen = unsafe { mprotect(self.base.add(GUARD).cast(), self.inner, READ) };
-        assert_eq!(frozen, 0, "mprotect failed");
+    /// The area, which is there until the words are dropped.
+    fn area(&self) -> &Area {
+        self.area.as_ref().expect("an area")
+    }
+}
+
+/// Memory at a guard, which cannot be written when it is frozen.
+impl Memory for Guarded {
+    type Frozen = Frozen;
+
+    fn freeze(self) -> Frozen {
+        self.area().protect(READ);
         Frozen(self)
     }
 }
@@ -97,14 +166,14 @@ impl Deref for Guarded {
     type Target = [u32];
 
     fn deref(&self) -> &[u32] {
-        // SAFETY: these words lie in memory that `zero` took, and they are borrowed with `self`.
+        // SAFETY: these words lie in the area, and they are borrowed with `self`.
         unsafe { slice::from_raw_parts(self.first, self.words) }
     }
 }
 
 impl DerefMut for Guarded {
     fn deref_mut(&mut self) -> &mut [u32] {
-        // SAFETY: these words lie in memory that `zero` took, and they are borrowed with `self` alone.
+        // SAFETY: these words lie in the area, and they are borrowed with `self` alone.
         unsafe { slice::from_raw_parts_mut(self.first, self.words) }
     }
 }
@@ -117,9 +186,15 @@ impl Deref for Frozen {
     }
 }
 
+impl Drop for Frozen {
+    fn drop(&mut self) {
+        self.0.area().protect(READ_AND_WRITE);
+    }
+}
+
 impl Drop for Guarded {
     fn drop(&mut self) {
-        // SAFETY: the whole memory that `zero` took, which nothing borrows any more.
-        unsafe { munmap(self.base.cast(), self.inner + 2 * GUARD) };
+        let small = self.area.take().filter(|area| area.inner == GUARD);
+        SPARE.with_borrow_mut(|spare| spare.extend(small));
     }
 }

@@ -1,27 +1,21 @@
-//! The plain search over contacts: what a table over a set of contacts must hold, without cells or an add rule.
+//! The plain search over contacts: what a table over a set of contacts must hold and answer, without cells or an add rule.
 
+use crate::testing::calls::accepted;
+use crate::testing::contents::Contents;
 use crate::testing::words::{self, Cells, Contact, Interval, Opening};
+use crate::Added;
+use std::cell::OnceCell;
+use std::cmp::Reverse;
 use std::collections::BTreeSet;
-use std::ops::RangeInclusive;
 
 /// A set of contacts in log order.
 pub type Contacts = BTreeSet<Contact>;
 
 /// The minimal journey intervals of every ordered pair of different animals, by departure.
 pub fn minimal_intervals(opening: Opening, contacts: &Contacts) -> Cells {
-    let leaving = by_animal_left(opening, contacts);
-    let mut cells = vec![Vec::new(); opening.pairs()];
-    for x in 0..opening.animals {
-        let departures: BTreeSet<u32> = leaving[x as usize].iter().map(|c| c.tick).collect();
-        for departure in departures {
-            let arrivals = earliest_arrivals(opening, &leaving, x, departure..=departure);
-            for y in (0..opening.animals).filter(|&y| y != x) {
-                if let Some(arrival) = arrivals[y as usize] {
-                    cells[opening.pair(x, y)].push(Interval::new(departure, arrival));
-                }
-            }
-        }
-    }
+    let earliest = |animal: &[bool]| animal.iter().position(|&seen| seen);
+    let first = |seen: &[bool]| earliest(seen).into_iter().collect();
+    let cells = intervals(opening, contacts, first);
     cells.iter().map(|journeys| minimal(journeys)).collect()
 }
 
@@ -30,82 +24,103 @@ pub fn fresh_table(opening: Opening, contacts: &Contacts) -> Vec<u32> {
     words::table(opening, &minimal_intervals(opening, contacts))
 }
 
-/// The earliest arrival at each animal of a journey that leaves `x` at `first` or later.
-pub fn arrivals_from(
-    opening: Opening,
-    contacts: &Contacts,
-    x: u32,
-    first: u32,
-) -> Vec<Option<u32>> {
-    let leaving = by_animal_left(opening, contacts);
-    earliest_arrivals(opening, &leaving, x, first..=opening.ticks)
+/// The number of ordered pairs whose intervals differ.
+pub fn changed_pairs(before: &Cells, after: &Cells) -> u32 {
+    before.iter().zip(after).filter(|(b, a)| b != a).count() as u32
 }
 
-/// Whether a journey fits the window, given the earliest arrival of those that depart at or after its first tick.
-pub fn fits(arrival: Option<u32>, window: Interval) -> bool {
-    arrival.is_some_and(|arrival| Interval::new(window.departure, arrival).fits(window))
-}
-
-/// Every journey of a set of contacts, known by its animals, departure and arrival.
+/// The journeys of a set of contacts, each known by its first and last animal and its interval.
 pub struct Journeys {
     opening: Opening,
     contacts: Contacts,
-    seen: Vec<Vec<bool>>,
+    minimal: Cells,
+    all: OnceCell<Cells>,
 }
 
 impl Journeys {
     /// The journeys of the set.
-    pub fn new(opening: Opening, contacts: &Contacts) -> Journeys {
-        let leaving = by_animal_left(opening, contacts);
-        let mut seen = Vec::new();
-        for x in 0..opening.animals {
-            for departure in 1..=opening.ticks {
-                seen.push(arrivals(opening, &leaving, x, departure..=departure));
-            }
-        }
+    pub fn new(opening: Opening, contacts: Contacts) -> Journeys {
+        let minimal = minimal_intervals(opening, &contacts);
         Journeys {
             opening,
-            contacts: contacts.clone(),
-            seen,
+            contacts,
+            minimal,
+            all: OnceCell::new(),
         }
     }
 
-    /// Whether a journey leaves `x` at the departure and reaches `y` at the arrival.
-    fn holds(&self, x: u32, y: u32, departure: u32, arrival: u32) -> bool {
-        let from = &self.seen[(x * self.opening.ticks + departure - 1) as usize];
-        from[(y * (self.opening.last_arrival() + 1) + arrival) as usize]
+    /// The set.
+    pub fn contacts(&self) -> &Contacts {
+        &self.contacts
     }
 
-    /// The latest departure, at `first` or later, of a journey from `x` that reaches `y` at the arrival.
-    fn latest(&self, x: u32, y: u32, first: u32, arrival: u32) -> Option<u32> {
-        let mut departures = (first..=self.opening.ticks).rev();
-        departures.find(|&departure| self.holds(x, y, departure, arrival))
+    /// The minimal intervals of every ordered pair.
+    pub fn minimal(&self) -> &Cells {
+        &self.minimal
     }
 
-    /// Among the journeys from `x` to `y` that fit the window the earliest arrival, then the latest departure.
-    fn kept(&self, x: u32, y: u32, window: Interval) -> Option<Interval> {
-        let latest_fitting = |arrival| {
-            let departures = (1..=self.opening.ticks).rev();
-            let mut intervals = departures.map(|departure| Interval::new(departure, arrival));
-            intervals.find(|i| i.fits(window) && self.holds(x, y, i.departure, i.arrival))
-        };
-        (1..=self.opening.last_arrival()).find_map(latest_fitting)
+    /// The intervals of all journeys from `u` to another animal `v`, whether another one lies inside them or not.
+    fn between(&self, u: u32, v: u32) -> &[Interval] {
+        let every = |animal: &[bool]| (0..animal.len()).filter(|&time| animal[time]).collect();
+        let find = || intervals(self.opening, &self.contacts, every);
+        &self.all.get_or_init(find)[self.opening.pair(u, v)]
     }
 
-    /// The chain from `u` to `v` in the window, by document 01's rule on the journeys.
-    pub fn chain(&self, u: u32, v: u32, window: Interval) -> Option<Vec<Contact>> {
-        let carry = self.opening.carry;
-        let kept = self.kept(u, v, window)?;
-        let arrival = kept.arrival;
+    /// The latest departure, at `first` or later, of a journey from `u` that reaches `v` at the arrival.
+    fn latest_to_arrive(&self, u: u32, v: u32, first: u32, arrival: u32) -> Option<u32> {
+        let journeys = self.between(u, v).iter();
+        let arriving = journeys.filter(|i| i.departure >= first && i.arrival == arrival);
+        arriving.map(|i| i.departure).max()
+    }
+}
+
+impl Contents for Journeys {
+    fn opening(&self) -> Opening {
+        self.opening
+    }
+
+    fn holds(&self, contact: Contact) -> bool {
+        self.contacts.contains(&contact)
+    }
+
+    fn held(&self) -> Vec<Contact> {
+        self.contacts.iter().copied().collect()
+    }
+
+    fn add(&self, contact: Contact) -> (Cells, Added) {
+        let mut more = self.contacts.clone();
+        let new = more.insert(contact);
+        let after = minimal_intervals(self.opening, &more);
+        let changed = changed_pairs(&self.minimal, &after);
+        (after, accepted(!new, changed))
+    }
+
+    fn reaches(&self, u: u32, v: u32, window: Interval) -> bool {
+        self.between(u, v).iter().any(|i| i.fits(window))
+    }
+
+    fn earliest(&self, u: u32, v: u32, first: u32) -> Option<u32> {
+        let departing = self.between(u, v).iter().filter(|i| i.departure >= first);
+        departing.map(|i| i.arrival).min()
+    }
+
+    fn latest(&self, u: u32, v: u32, last: u32) -> Option<u32> {
+        let arriving = self.between(u, v).iter().filter(|i| i.arrival <= last);
+        arriving.map(|i| i.departure).max()
+    }
+
+    fn chain(&self, u: u32, v: u32, window: Interval) -> Option<Vec<Contact>> {
+        let fitting = self.between(u, v).iter().filter(|i| i.fits(window));
+        let kept = fitting.min_by_key(|i| (i.arrival, Reverse(i.departure)))?;
         let (mut x, mut departure) = (u, kept.departure);
         let mut chain = Vec::new();
         while x != v {
-            let met = departure + carry;
+            let met = departure + self.opening.carry;
             let next = |z| {
                 if z == v {
-                    (met == arrival).then_some(met)
+                    (met == kept.arrival).then_some(met)
                 } else {
-                    self.latest(z, v, met, arrival)
+                    self.latest_to_arrive(z, v, met, kept.arrival)
                 }
             };
             let contacts = (0..self.opening.animals).map(|z| Contact::new(x, z, departure));
@@ -120,46 +135,40 @@ impl Journeys {
     }
 }
 
-/// The number of ordered pairs whose intervals differ.
-pub fn changed_pairs(before: &Cells, after: &Cells) -> u32 {
-    before.iter().zip(after).filter(|(b, a)| b != a).count() as u32
-}
-
-/// The contacts that leave each animal.
-fn by_animal_left(opening: Opening, contacts: &Contacts) -> Vec<Vec<Contact>> {
+/// For every ordered pair of different animals the intervals of those journeys that `arrivals` takes, by departure: of
+/// those that leave with one departure it is told which times an animal is reached at, and gives times.
+fn intervals(
+    opening: Opening,
+    contacts: &Contacts,
+    arrivals: impl Fn(&[bool]) -> Vec<usize>,
+) -> Cells {
     let mut leaving = vec![Vec::new(); opening.animals as usize];
     for &contact in contacts {
         leaving[contact.from as usize].push(contact);
     }
-    leaving
-}
-
-/// The earliest arrival at each animal of a journey that leaves `x` at one of the departures.
-fn earliest_arrivals(
-    opening: Opening,
-    leaving: &[Vec<Contact>],
-    x: u32,
-    departures: RangeInclusive<u32>,
-) -> Vec<Option<u32>> {
     let times = opening.last_arrival() as usize + 1;
-    let seen = arrivals(opening, leaving, x, departures);
-    let earliest = |animal: &[bool]| animal.iter().position(|&seen| seen);
-    let times = seen.chunks(times).map(earliest);
-    times.map(|time| time.map(|time| time as u32)).collect()
+    let mut cells = vec![Vec::new(); opening.pairs()];
+    for x in 0..opening.animals {
+        let departures: BTreeSet<u32> = leaving[x as usize].iter().map(|c| c.tick).collect();
+        for departure in departures {
+            let seen = search(opening, &leaving, x, departure);
+            for (y, animal) in (0..).zip(seen.chunks(times)).filter(|&(y, _)| y != x) {
+                let cell: &mut Vec<Interval> = &mut cells[opening.pair(x, y)];
+                let taken = arrivals(animal).into_iter();
+                cell.extend(taken.map(|arrival| Interval::new(departure, arrival as u32)));
+            }
+        }
+    }
+    cells
 }
 
-/// Whether a journey that leaves `x` at one of the departures reaches each animal at each time from 0 to τ+δ.
-fn arrivals(
-    opening: Opening,
-    leaving: &[Vec<Contact>],
-    x: u32,
-    departures: RangeInclusive<u32>,
-) -> Vec<bool> {
+/// Whether a journey that leaves `x` at the departure reaches each animal at each time from 0 to τ+δ.
+fn search(opening: Opening, leaving: &[Vec<Contact>], x: u32, departure: u32) -> Vec<bool> {
     let times = opening.last_arrival() as usize + 1;
     let mut seen = vec![false; opening.animals as usize * times];
     let mut open: Vec<Contact> = Vec::new();
     let leaving_x = leaving[x as usize].iter();
-    open.extend(leaving_x.filter(|c| departures.contains(&c.tick)));
+    open.extend(leaving_x.filter(|c| c.tick == departure));
     while let Some(taken) = open.pop() {
         let (animal, time) = (taken.to as usize, taken.tick + opening.carry);
         if seen[animal * times + time as usize] {

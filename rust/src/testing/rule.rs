@@ -1,91 +1,132 @@
-//! Document 01's add rule, its fit of a window and its chain on cells, word for word, for any well-formed table.
+//! Document 01's add rule and its questions on cells, word for word, for any well-formed table.
 
 use crate::testing::calls::accepted;
+use crate::testing::contents::Contents;
 use crate::testing::words::{Cells, Contact, Interval, Opening};
 use crate::Added;
 use std::cmp::Reverse;
 
-/// The cells after the contact is added to `before`, and the answer.
-pub fn add(opening: Opening, before: &Cells, contact: Contact) -> (Cells, Added) {
-    let (u, v, t) = (contact.from, contact.to, contact.tick);
-    let arrival = t + opening.carry;
-    let mut after = before.clone();
-    let mut changed = 0;
-    for x in 0..opening.animals {
-        let d = if x == u {
-            Some(t)
-        } else {
-            latest_departure(&before[opening.pair(x, u)], t)
-        };
-        for y in (0..opening.animals).filter(|&y| y != x) {
-            let e = if y == v {
-                Some(arrival)
-            } else {
-                earliest_arrival(&before[opening.pair(v, y)], arrival)
-            };
-            if let (Some(d), Some(e)) = (d, e) {
-                let cell = &before[opening.pair(x, y)];
-                let entered = enter(cell, Interval::new(d, e));
-                changed += u32::from(entered != *cell);
-                after[opening.pair(x, y)] = entered;
-            }
-        }
+/// The cells of a well-formed table; its stored intervals stand for the journeys.
+pub struct Stored {
+    opening: Opening,
+    cells: Cells,
+}
+
+impl Stored {
+    /// The table of these cells.
+    pub fn new(opening: Opening, cells: Cells) -> Stored {
+        Stored { opening, cells }
     }
-    let known = before[opening.pair(u, v)].contains(&contact.interval(opening.carry));
-    (after, accepted(known, changed))
-}
 
-/// Whether an interval of the cell fits the window.
-pub fn fits(cell: &[Interval], window: Interval) -> bool {
-    cell.iter().any(|interval| interval.fits(window))
-}
+    /// The cells.
+    pub fn cells(&self) -> &Cells {
+        &self.cells
+    }
 
-/// The chain from `u` to `v` in the window: the walk, when it ends at `v` within n−1 contacts.
-pub fn chain(
-    opening: Opening,
-    cells: &Cells,
-    u: u32,
-    v: u32,
-    window: Interval,
-) -> Option<Vec<Contact>> {
-    let (walked, ends) = walk(opening, cells, u, v, window);
-    (ends && walked.len() < opening.animals as usize).then_some(walked)
-}
+    /// The intervals stored for the pair (u, v).
+    pub fn cell(&self, u: u32, v: u32) -> &[Interval] {
+        &self.cells[self.opening.pair(u, v)]
+    }
 
-/// The contacts that the chain's rule goes through from `u`, and whether they end at `v`.
-pub fn walk(
-    opening: Opening,
-    cells: &Cells,
-    u: u32,
-    v: u32,
-    window: Interval,
-) -> (Vec<Contact>, bool) {
-    let mut walked = Vec::new();
-    let cell = &cells[opening.pair(u, v)];
-    let fitting = cell.iter().filter(|i| i.fits(window));
-    let Some(kept) = fitting.min_by_key(|i| (i.arrival, Reverse(i.departure))) else {
-        return (walked, false);
-    };
-    let (mut x, mut departure) = (u, kept.departure);
-    while x != v {
-        let met = Interval::new(departure, departure + opening.carry);
-        let held = |z: &u32| cells[opening.pair(x, *z)].contains(&met);
-        let next = (0..opening.animals).filter(held).find_map(|z| {
-            let goes_on = |i: &&Interval| i.arrival == kept.arrival && i.departure >= met.arrival;
-            if z == v {
-                (met.arrival == kept.arrival).then_some((z, met.arrival))
-            } else {
-                let onward = cells[opening.pair(z, v)].iter().find(goes_on);
-                onward.map(|i| (z, i.departure))
-            }
-        });
-        let Some((z, later)) = next else {
+    /// The contacts that the chain's rule goes through from `u`, and whether they end at `v`.
+    pub fn walk(&self, u: u32, v: u32, window: Interval) -> (Vec<Contact>, bool) {
+        let mut walked = Vec::new();
+        let fitting = self.cell(u, v).iter().filter(|i| i.fits(window));
+        let Some(kept) = fitting.min_by_key(|i| (i.arrival, Reverse(i.departure))) else {
             return (walked, false);
         };
-        walked.push(Contact::new(x, z, departure));
-        (x, departure) = (z, later);
+        let (mut x, mut departure) = (u, kept.departure);
+        while x != v {
+            let met = Interval::new(departure, departure + self.opening.carry);
+            let held = |z: &u32| self.cell(x, *z).contains(&met);
+            let next = (0..self.opening.animals).filter(held).find_map(|z| {
+                let goes_on =
+                    |i: &&Interval| i.arrival == kept.arrival && i.departure >= met.arrival;
+                if z == v {
+                    (met.arrival == kept.arrival).then_some((z, met.arrival))
+                } else {
+                    let onward = self.cell(z, v).iter().find(goes_on);
+                    onward.map(|i| (z, i.departure))
+                }
+            });
+            let Some((z, later)) = next else {
+                return (walked, false);
+            };
+            walked.push(Contact::new(x, z, departure));
+            (x, departure) = (z, later);
+        }
+        (walked, true)
     }
-    (walked, true)
+}
+
+impl Contents for Stored {
+    fn opening(&self) -> Opening {
+        self.opening
+    }
+
+    fn holds(&self, contact: Contact) -> bool {
+        let inside = contact.from < self.opening.animals && contact.to < self.opening.animals;
+        let alone = contact.interval(self.opening.carry);
+        inside && self.cell(contact.from, contact.to).contains(&alone)
+    }
+
+    fn held(&self) -> Vec<Contact> {
+        let mut held = Vec::new();
+        for u in 0..self.opening.animals {
+            for v in 0..self.opening.animals {
+                let cell = self.cell(u, v).iter();
+                held.extend(cell.map(|i| Contact::new(u, v, i.departure)));
+            }
+        }
+        held.retain(|&contact| self.holds(contact));
+        held.sort();
+        held
+    }
+
+    fn add(&self, contact: Contact) -> (Cells, Added) {
+        let (u, v, t) = (contact.from, contact.to, contact.tick);
+        let arrival = t + self.opening.carry;
+        let mut after = self.cells.clone();
+        let mut changed = 0;
+        for x in 0..self.opening.animals {
+            let d = if x == u {
+                Some(t)
+            } else {
+                latest_departure(self.cell(x, u), t)
+            };
+            for y in (0..self.opening.animals).filter(|&y| y != x) {
+                let e = if y == v {
+                    Some(arrival)
+                } else {
+                    earliest_arrival(self.cell(v, y), arrival)
+                };
+                if let (Some(d), Some(e)) = (d, e) {
+                    let cell = self.cell(x, y);
+                    let entered = enter(cell, Interval::new(d, e));
+                    changed += u32::from(entered != *cell);
+                    after[self.opening.pair(x, y)] = entered;
+                }
+            }
+        }
+        (after, accepted(self.holds(contact), changed))
+    }
+
+    fn reaches(&self, u: u32, v: u32, window: Interval) -> bool {
+        self.cell(u, v).iter().any(|i| i.fits(window))
+    }
+
+    fn earliest(&self, u: u32, v: u32, first: u32) -> Option<u32> {
+        earliest_arrival(self.cell(u, v), first)
+    }
+
+    fn latest(&self, u: u32, v: u32, last: u32) -> Option<u32> {
+        latest_departure(self.cell(u, v), last)
+    }
+
+    fn chain(&self, u: u32, v: u32, window: Interval) -> Option<Vec<Contact>> {
+        let (walked, ends) = self.walk(u, v, window);
+        (ends && walked.len() < self.opening.animals as usize).then_some(walked)
+    }
 }
 
 /// The latest departure in the cell with arrival at most `tick`.

@@ -97,6 +97,29 @@ impl Interval {
     }
 }
 
+/// The interval of the journey that the contacts form: one or more, each starting where the last arrived, at or after that
+/// arrival.
+pub fn journey(carry: u32, contacts: &[Contact]) -> Option<Interval> {
+    let goes_on = |pair: &[Contact]| {
+        pair[0].to == pair[1].from && pair[0].interval(carry).arrival <= pair[1].tick
+    };
+    let (first, last) = (contacts.first()?, contacts.last()?);
+    let interval = Interval::new(first.tick, last.interval(carry).arrival);
+    contacts.windows(2).all(goes_on).then_some(interval)
+}
+
+/// The number of words of a set of animals.
+pub const SET_WORDS: usize = 8;
+
+/// The words of a set of animals: animal i is bit i mod 32 of word i/32 rounded down.
+pub fn set(animals: &[u32]) -> [u32; SET_WORDS] {
+    let mut words = [0; SET_WORDS];
+    for animal in animals {
+        words[(animal / 32) as usize] |= 1 << (animal % 32);
+    }
+    words
+}
+
 /// The kind of an unused word.
 pub const UNUSED: u32 = 0;
 /// The kind of an interval word.
@@ -186,6 +209,11 @@ pub fn table(opening: Opening, cells: &Cells) -> Vec<u32> {
         words.extend((cell.len()..opening.ticks as usize).map(|_| 0));
     }
     words
+}
+
+/// The words of these contacts, as in a log or a chain.
+pub fn contact_words(contacts: &[Contact]) -> Vec<u32> {
+    contacts.iter().copied().map(contact_word).collect()
 }
 
 /// The words of the log of these contacts, in the order in which they come.

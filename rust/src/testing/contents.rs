@@ -1,0 +1,55 @@
+//! What a table holds, as the calls on it ask for it.
+
+use crate::testing::words::{self, Cells, Contact, Interval, Opening};
+use crate::Added;
+
+/// What a table holds: told by its contacts (`model::Journeys`), or by its stored intervals (`rule::Stored`). Animals,
+/// ticks and windows are legal ones.
+pub trait Contents {
+    /// The table's numbers.
+    fn opening(&self) -> Opening;
+
+    /// Whether the table holds the contact, which may be any.
+    fn holds(&self, contact: Contact) -> bool;
+
+    /// The contacts that the table holds, in log order.
+    fn held(&self) -> Vec<Contact>;
+
+    /// The cells after the contact is added, and the answer.
+    fn add(&self, contact: Contact) -> (Cells, Added);
+
+    /// Whether a journey from `u` to `v` fits the window.
+    fn reaches(&self, u: u32, v: u32, window: Interval) -> bool;
+
+    /// The earliest arrival of a journey from `u` to `v` that departs at or after `first`.
+    fn earliest(&self, u: u32, v: u32, first: u32) -> Option<u32>;
+
+    /// The latest departure of a journey from `u` to `v` that arrives by `last`.
+    fn latest(&self, u: u32, v: u32, last: u32) -> Option<u32>;
+
+    /// The chain from `u` to `v` in the window.
+    fn chain(&self, u: u32, v: u32, window: Interval) -> Option<Vec<Contact>>;
+
+    /// The animals, without `u`, that are reached from it in the window.
+    fn reached(&self, u: u32, window: Interval) -> Vec<u32> {
+        let others = (0..self.opening().animals).filter(|&v| v != u);
+        others.filter(|&v| self.reaches(u, v, window)).collect()
+    }
+
+    /// Whether every ordered pair of different animals is reached in the window.
+    fn connects(&self, window: Interval) -> bool {
+        let n = self.opening().animals;
+        (0..n).all(|u| (0..n).all(|v| u == v || self.reaches(u, v, window)))
+    }
+
+    /// Whether the words are contacts held that form a journey from `u` to `v`, and it fits the window.
+    fn spells(&self, u: u32, v: u32, window: Interval, chain: &[u32]) -> bool {
+        let held = |&word: &u32| words::read_contact(word).filter(|&contact| self.holds(contact));
+        let Some(contacts) = chain.iter().map(held).collect::<Option<Vec<Contact>>>() else {
+            return false;
+        };
+        let ends = |contacts: &[Contact]| (contacts[0].from, contacts[contacts.len() - 1].to);
+        words::journey(self.opening().carry, &contacts)
+            .is_some_and(|taken| ends(&contacts) == (u, v) && taken.fits(window))
+    }
+}

@@ -1,0 +1,228 @@
+//! One suite for all calls: a call on a table, and what it must come to.
+//!
+//! A [`Call`](call::Call) is made through the safe wrapper on a [`Lent`](lent::Lent) table, and its answer and every lent
+//! word afterwards, those lent for reading too, are compared with what must be: by the plain search over contacts where the
+//! table was built from contacts, by the text of document 01 where it was not.
+
+pub mod call;
+pub mod draws;
+pub mod lent;
+pub mod reply;
+
+use crate::testing::compare::same_words;
+use crate::testing::guard::{Place, PLACES};
+use crate::testing::random::Random;
+use crate::testing::words::{self, Interval};
+use call::{Call, Outcome};
+use lent::Lent;
+use reply::{Export, Reply};
+use std::collections::BTreeMap;
+use std::thread;
+
+/// How often each answer of each call was met.
+#[derive(Default)]
+pub struct Suite {
+    met: BTreeMap<(Export, Reply), u32>,
+}
+
+impl Suite {
+    /// Makes the call on the table, and compares.
+    #[track_caller]
+    pub fn compare(&mut self, lent: &Lent, call: &Call) -> Reply {
+        let expected = call.expected(&lent.words, &lent.known);
+        same(&call.made(&lent.words), &expected, lent, call, None);
+        self.note(call.export(), expected.reply)
+    }
+
+    /// Makes the call on the table, compares, and fails unless it is answered so.
+    #[track_caller]
+    pub fn require(&mut self, lent: &Lent, call: &Call, reply: Reply) {
+        let answer = self.compare(lent, call);
+        assert_eq!(answer, reply, "{call:?} on {:?}", lent.opening);
+    }
+
+    /// Makes the call with each lent slice at either guard, those lent for reading where they cannot be written, and
+    /// compares.
+    #[track_caller]
+    pub fn compare_at_guards(&mut self, lent: &Lent, call: &Call) -> Reply {
+        let expected = call.expected(&lent.words, &lent.known);
+        let alone = expected.beside.is_empty();
+        for table in PLACES {
+            for beside in PLACES.into_iter().take(if alone { 1 } else { 2 }) {
+                let places = [table, beside];
+                let made = call.made_at(&lent.words, places);
+                same(&made, &expected, lent, call, Some(places));
+            }
+        }
+        self.note(call.export(), expected.reply)
+    }
+
+    /// Makes a call of each kind on the table, so many times, and compares.
+    #[track_caller]
+    pub fn compare_drawn(
+        &mut self,
+        random: &mut Random,
+        lent: &Lent,
+        exports: &[Export],
+        times: usize,
+    ) {
+        for &export in exports {
+            for _ in 0..times {
+                let call = lent.draw(random, export);
+                self.compare(lent, &call);
+            }
+        }
+    }
+
+    /// Makes every legal call on a small table, and one in so many of those with a number one beyond, and compares.
+    #[track_caller]
+    pub fn compare_every(&mut self, random: &mut Random, lent: &Lent, rarely: usize) {
+        let (n, ticks) = (lent.opening.animals, lent.opening.ticks);
+        let end = lent.opening.last_arrival();
+        let asks = |random: &mut Random, legal: bool| legal || random.once_in(rarely);
+        for u in 0..=n {
+            for v in 0..=n {
+                let pair = u != v && u < n && v < n;
+                for t in 0..=ticks + 1 {
+                    if asks(random, pair && (1..=ticks).contains(&t)) {
+                        self.compare(lent, &Call::Add { u, v, t });
+                    }
+                }
+                for tick in 0..=end + 1 {
+                    if asks(random, pair && (1..=end).contains(&tick)) {
+                        self.compare(lent, &Call::Earliest { u, v, first: tick });
+                        self.compare(lent, &Call::Latest { u, v, last: tick });
+                    }
+                }
+                for (first, last, legal) in windows(end) {
+                    if asks(random, pair && legal) {
+                        self.compare_pair(random, lent, (u, v), (first, last));
+                    }
+                }
+            }
+            for (first, last, legal) in windows(end) {
+                if asks(random, u < n && legal) {
+                    let set = draws::set(random);
+                    self.compare(
+                        lent,
+                        &Call::Reached {
+                            u,
+                            first,
+                            last,
+                            set,
+                        },
+                    );
+                }
+            }
+        }
+        for (first, last, _) in windows(end) {
+            self.compare(lent, &Call::Connected { first, last });
+        }
+        self.compare_drawn(random, lent, &[Export::WriteLog], 4);
+    }
+
+    /// Makes each call with a pair and a window, and compares.
+    #[track_caller]
+    pub fn compare_pair(
+        &mut self,
+        random: &mut Random,
+        lent: &Lent,
+        (u, v): (u32, u32),
+        (first, last): (u32, u32),
+    ) {
+        self.compare(lent, &Call::Reach { u, v, first, last });
+        let buffer = draws::buffer(random, lent.opening.animals as usize - 1);
+        let call = Call::Chain {
+            u,
+            v,
+            first,
+            last,
+            buffer,
+        };
+        self.compare(lent, &call);
+        let chain = claim(random, lent, (u, v));
+        let call = Call::Claimed {
+            u,
+            v,
+            first,
+            last,
+            chain,
+        };
+        self.compare(lent, &call);
+    }
+
+    /// How often the call gave such an answer.
+    pub fn times(&self, export: Export, is_such: impl Fn(Reply) -> bool) -> u32 {
+        let met = self.met.iter();
+        let such = met.filter(|((call, reply), _)| *call == export && is_such(*reply));
+        such.map(|(_, times)| times).sum()
+    }
+
+    /// Fails where one of the calls gave one of its answers, or one of these refusals that it has, less often.
+    #[track_caller]
+    pub fn at_least(&self, times: u32, exports: &[Export], refusals: &[u32]) {
+        for &export in exports {
+            for kind in export.kinds() {
+                let met = self.times(export, |reply| reply.kind() == *kind);
+                assert!(met >= times, "{export:?} {kind}: {met} times");
+            }
+            for number in refusals.iter().filter(|n| export.refusals().contains(n)) {
+                let met = self.times(export, |reply| reply == Reply::Refused(*number));
+                assert!(met >= times, "{export:?} refused {number}: {met} times");
+            }
+        }
+    }
+
+    /// Counts one answer more.
+    fn note(&mut self, export: Export, reply: Reply) -> Reply {
+        *self.met.entry((export, reply)).or_insert(0) += 1;
+        reply
+    }
+}
+
+/// With `--nocapture` a test tells how many calls it compared.
+impl Drop for Suite {
+    fn drop(&mut self) {
+        let times = |export: &Export| (*export, self.times(*export, |_| true));
+        let told: Vec<_> = Export::ALL
+            .iter()
+            .map(times)
+            .filter(|(_, n)| *n > 0)
+            .collect();
+        println!("{}: {told:?}", thread::current().name().unwrap_or("a test"));
+    }
+}
+
+/// The first and last ticks from 0 to one beyond the end, and whether they make a window.
+fn windows(end: u32) -> impl Iterator<Item = (u32, u32, bool)> {
+    let from = move |first| (0..=end + 1).map(move |last| (first, last));
+    let legal = move |first, last| 1 <= first && first <= last && last <= end;
+    let ticks = (0..=end + 1).flat_map(from);
+    ticks.map(move |(first, last)| (first, last, legal(first, last)))
+}
+
+/// A claimed chain for a pair: mostly the chain of the widest window, where there is one.
+fn claim(random: &mut Random, lent: &Lent, (u, v): (u32, u32)) -> Vec<u32> {
+    let pair = u != v && u.max(v) < lent.opening.animals;
+    let widest = Interval::new(1, lent.opening.last_arrival());
+    let contents = lent.known.contents().ok();
+    let told = contents.filter(|_| pair && !random.once_in(4));
+    let chain = told.and_then(|contents| contents.chain(u, v, widest));
+    words::contact_words(&chain.unwrap_or_else(|| lent.journey(random, 3)))
+}
+
+/// Fails where the answer or a lent word is not as expected.
+#[track_caller]
+fn same(made: &Outcome, expected: &Outcome, lent: &Lent, call: &Call, places: Option<[Place; 2]>) {
+    if made == expected {
+        return;
+    }
+    let case = (lent.opening, call, places);
+    assert_eq!(
+        made.reply, expected.reply,
+        "{case:?} on {:08X?}",
+        lent.words
+    );
+    same_words(&made.table, &expected.table, ("the table", &case));
+    same_words(&made.beside, &expected.beside, ("beside the table", &case));
+}

@@ -1,0 +1,272 @@
+//! Random calls on a table: mostly legal ones, with numbers at their edges, and such as are refused.
+
+use super::call::Call;
+use super::lent::Lent;
+use super::reply::Export;
+use crate::testing::cases;
+use crate::testing::random::Random;
+use crate::testing::words::{self, Contact, Interval, Opening};
+
+impl Lent {
+    /// A call of this kind.
+    pub fn draw(&self, random: &mut Random, export: Export) -> Call {
+        let opening = self.opening;
+        let (u, v) = (animal(random, opening), animal(random, opening));
+        let (first, last) = window(random, opening);
+        match export {
+            Export::Open => self.draw_open(random),
+            Export::ReadLog => self.draw_read_log(random),
+            Export::Add => {
+                let t = tick(random, opening.ticks);
+                Call::Add { u, v, t }
+            }
+            Export::WriteLog => Call::WriteLog {
+                buffer: buffer(random, self.held.len() + 2),
+            },
+            Export::Reach => Call::Reach { u, v, first, last },
+            Export::Earliest => {
+                let first = tick(random, opening.last_arrival());
+                Call::Earliest { u, v, first }
+            }
+            Export::Latest => {
+                let last = tick(random, opening.last_arrival());
+                Call::Latest { u, v, last }
+            }
+            Export::Connected => Call::Connected { first, last },
+            Export::Reached => Call::Reached {
+                u,
+                first,
+                last,
+                set: set(random),
+            },
+            Export::Chain => Call::Chain {
+                u,
+                v,
+                first,
+                last,
+                buffer: buffer(random, opening.animals as usize - 1),
+            },
+            Export::Claimed => self.draw_claimed(random),
+        }
+    }
+
+    /// An opening, mostly with the numbers for which the table has its length.
+    fn draw_open(&self, random: &mut Random) -> Call {
+        let opening = self.opening;
+        let beyond = [0, 257, 1025, 1 << 16, 1 << 31, u32::MAX];
+        let mut numbers = [opening.animals, opening.ticks, random.between(1, 256)];
+        if random.once_in(3) {
+            numbers[random.below(3)] = random.one_of(&beyond);
+        }
+        if random.once_in(6) {
+            let place = random.below(2);
+            numbers[place] = numbers[place].wrapping_add(1);
+        }
+        let [animals, ticks, carry] = numbers;
+        Call::Open {
+            animals,
+            ticks,
+            carry,
+        }
+    }
+
+    /// A log for a table of this length, mostly a good one.
+    fn draw_read_log(&self, random: &mut Random) -> Call {
+        let contacts = cases::log_contacts(random, self.opening, 12);
+        let mut log = words::log(self.opening, contacts);
+        if random.once_in(2) {
+            log = cases::damaged_log(random, &log);
+        }
+        Call::ReadLog { log }
+    }
+
+    /// A claimed chain: a journey of held contacts, or one that was damaged.
+    fn draw_claimed(&self, random: &mut Random) -> Call {
+        let most = random.one_of(&[1, 2, 3, self.opening.animals as usize, 40]);
+        let journey = self.journey(random, most);
+        let mut chain = words::contact_words(&journey);
+        let (mut u, mut v) = (animal(random, self.opening), animal(random, self.opening));
+        let (mut first, mut last) = window(random, self.opening);
+        if let Some(taken) = words::journey(self.opening.carry, &journey) {
+            if !random.once_in(5) {
+                (u, v) = (journey[0].from, journey[journey.len() - 1].to);
+            }
+            if !random.once_in(5) {
+                (first, last) = window_about(random, self.opening, taken);
+            }
+        }
+        if random.once_in(2) {
+            self.damage(random, &mut chain);
+        }
+        Call::Claimed {
+            u,
+            v,
+            first,
+            last,
+            chain,
+        }
+    }
+
+    /// A journey of held contacts, at most so many, which may pass an animal twice; no contact where none is held.
+    pub fn journey(&self, random: &mut Random, most: usize) -> Vec<Contact> {
+        let hasty = random.once_in(2);
+        let mut journey: Vec<Contact> = Vec::new();
+        while journey.len() < most {
+            let goes_on = |c: &&Contact| {
+                journey.last().is_none_or(|last| {
+                    last.to == c.from && last.interval(self.opening.carry).arrival <= c.tick
+                })
+            };
+            let mut next: Vec<Contact> = self.held.iter().filter(goes_on).copied().collect();
+            if hasty {
+                next.truncate(2);
+            }
+            if next.is_empty() {
+                break;
+            }
+            journey.push(random.one_of(&next));
+        }
+        journey
+    }
+
+    /// Changes, moves, leaves out or puts in one word of a chain.
+    fn damage(&self, random: &mut Random, chain: &mut Vec<u32>) {
+        let other = if self.held.is_empty() || random.once_in(3) {
+            0x4000_0000 | random.word() & 0x03FF_FFFF
+        } else {
+            words::contact_word(random.one_of(&self.held))
+        };
+        if chain.is_empty() || random.once_in(8) {
+            return chain.push(other);
+        }
+        let (place, second) = (random.below(chain.len()), random.below(chain.len()));
+        let step = random.one_of(&[1, 1 << 10, 1 << 18, u32::MAX]);
+        match random.below(9) {
+            0 => chain.clear(),
+            1 => drop(chain.remove(0)),
+            2 => drop(chain.pop()),
+            3 => chain[place] ^= 1 << random.between(0, 31),
+            4 => chain.insert(place, chain[place]),
+            5 => chain.swap(place, second),
+            6 => chain[place] = other,
+            7 => chain[place] = chain[place].wrapping_add(step),
+            _ => chain.extend_from_within(..),
+        }
+    }
+}
+
+/// An animal, or now and then a number beyond them.
+pub fn animal(random: &mut Random, opening: Opening) -> u32 {
+    let n = opening.animals;
+    if random.once_in(12) {
+        random.one_of(&[
+            n,
+            n + 1,
+            255.max(n),
+            256,
+            1 << 16,
+            1 << 18,
+            1 << 31,
+            u32::MAX,
+        ])
+    } else {
+        random.between(0, n - 1)
+    }
+}
+
+/// A tick from 1 to the last, often one of these two, or now and then a number beyond.
+pub fn tick(random: &mut Random, last: u32) -> u32 {
+    match random.below(12) {
+        0 => random.one_of(&[0, last + 1, last + 2, 2048, 1 << 31, u32::MAX]),
+        1 => random.one_of(&[1, last]),
+        _ => random.between(1, last),
+    }
+}
+
+/// The first and last tick of a window, now and then of one that is refused.
+pub fn window(random: &mut Random, opening: Opening) -> (u32, u32) {
+    let last = opening.last_arrival();
+    let edges = [
+        0,
+        1,
+        opening.ticks,
+        opening.ticks + 1,
+        last,
+        last + 1,
+        u32::MAX,
+    ];
+    match random.below(12) {
+        0 => (random.one_of(&edges), random.one_of(&edges)),
+        1 => (tick(random, last), tick(random, last)),
+        2 | 3 => (1, last),
+        _ => {
+            let (one, other) = (random.between(1, last), random.between(1, last));
+            (one.min(other), one.max(other))
+        }
+    }
+}
+
+/// A window that a journey with this interval just fits, fits well, or fits not by one tick.
+pub fn window_about(random: &mut Random, opening: Opening, taken: Interval) -> (u32, u32) {
+    let (first, last) = (taken.departure, taken.arrival);
+    match random.below(6) {
+        0 => (first + 1, last),
+        1 => (first, last - 1),
+        2 | 3 => (first, last),
+        _ => {
+            let end = random.between(last, opening.last_arrival());
+            (random.between(1, first), end)
+        }
+    }
+}
+
+/// Words of no meaning for a buffer: mostly as many as it needs.
+pub fn buffer(random: &mut Random, needed: usize) -> Vec<u32> {
+    let other = random.one_of(&[
+        0,
+        1,
+        needed.saturating_sub(1),
+        needed + 1,
+        needed + 2,
+        needed + 9,
+    ]);
+    let room = if random.once_in(4) { other } else { needed };
+    random.words(room)
+}
+
+/// Words of no meaning for a set, none to a few more than it has.
+pub fn set(random: &mut Random) -> Vec<u32> {
+    let room = random.one_of(&[8, 8, 8, 0, 1, 2, 3, 4, 5, 6, 7, 9, 12]);
+    random.words(room)
+}
+
+/// A small table that adds built.
+pub fn built(random: &mut Random) -> Lent {
+    let opening = match random.below(3) {
+        0 => cases::opening(random),
+        1 => cases::opening_with_pairs(random),
+        _ => cases::opening_with_time(random),
+    };
+    let contacts = match random.below(3) {
+        0 => cases::log_contacts(random, opening, 40),
+        1 if opening.animals > 1 => cases::following_contacts(random, opening, 20),
+        _ => cases::crowded_contacts(random, opening),
+    };
+    Lent::built(random, opening, &contacts)
+}
+
+/// A small well-formed table that no adds built.
+pub fn stored(random: &mut Random) -> Lent {
+    let opening = cases::opening_with_time(random);
+    let cells = match random.below(4) {
+        0 => {
+            let opening = cases::opening(random);
+            let cells = cases::cells(random, opening);
+            return Lent::stored(opening, &cells);
+        }
+        1 => cases::cells(random, opening),
+        2 => cases::cells_near_closure(random, opening),
+        _ => cases::planted_cells(random, opening).0,
+    };
+    Lent::stored(opening, &cells)
+}

@@ -1,0 +1,191 @@
+//! What any of the calls answers, and which answers each of them has.
+
+use crate::{Added, Answer, Chain, Opened, Reached, Read, Tick, Written};
+
+/// The engine's calls.
+#[derive(Clone, Copy, Debug, PartialEq, Eq, PartialOrd, Ord)]
+pub enum Export {
+    Open,
+    ReadLog,
+    Add,
+    WriteLog,
+    Reach,
+    Earliest,
+    Latest,
+    Connected,
+    Reached,
+    Chain,
+    Claimed,
+}
+
+/// An answer of any call.
+#[derive(Clone, Copy, Debug, PartialEq, Eq, PartialOrd, Ord)]
+pub enum Reply {
+    Refused(u32),
+    Opened,
+    Read(u32),
+    New(u32),
+    Known(u32),
+    Written(u32),
+    Yes,
+    No,
+    At(u32),
+    Nothing,
+    Animals(u32),
+    Chain(u32),
+    NoJourney,
+}
+
+impl Export {
+    /// Every call.
+    pub const ALL: [Export; 11] = [
+        Export::Open,
+        Export::ReadLog,
+        Export::Add,
+        Export::WriteLog,
+        Export::Reach,
+        Export::Earliest,
+        Export::Latest,
+        Export::Connected,
+        Export::Reached,
+        Export::Chain,
+        Export::Claimed,
+    ];
+
+    /// The calls on an open table.
+    pub const ON_OPEN_TABLES: [Export; 9] = [
+        Export::Add,
+        Export::WriteLog,
+        Export::Reach,
+        Export::Earliest,
+        Export::Latest,
+        Export::Connected,
+        Export::Reached,
+        Export::Chain,
+        Export::Claimed,
+    ];
+
+    /// The kinds of its answers that are no refusals.
+    pub fn kinds(self) -> &'static [&'static str] {
+        match self {
+            Export::Open => &["opened"],
+            Export::ReadLog => &["read"],
+            Export::Add => &["new", "known"],
+            Export::WriteLog => &["written"],
+            Export::Reach | Export::Connected | Export::Claimed => &["yes", "no"],
+            Export::Earliest | Export::Latest => &["at", "nothing"],
+            Export::Reached => &["animals"],
+            Export::Chain => &["chain", "no journey"],
+        }
+    }
+
+    /// The numbers of its refusals, in the order of its checks.
+    pub fn refusals(self) -> &'static [u32] {
+        match self {
+            Export::Open => &[1, 2, 3, 4],
+            Export::ReadLog => &[11, 4, 12, 13, 14],
+            Export::WriteLog => &[5, 6, 15],
+            Export::Connected => &[5, 6, 9],
+            Export::Reached => &[5, 6, 7, 9],
+            Export::Chain => &[5, 6, 7, 8, 9, 10],
+            _ => &[5, 6, 7, 8, 9],
+        }
+    }
+}
+
+impl Reply {
+    /// The kind of the answer, without its number.
+    pub fn kind(self) -> &'static str {
+        match self {
+            Reply::Refused(_) => "refused",
+            Reply::Opened => "opened",
+            Reply::Read(_) => "read",
+            Reply::New(_) => "new",
+            Reply::Known(_) => "known",
+            Reply::Written(_) => "written",
+            Reply::Yes => "yes",
+            Reply::No => "no",
+            Reply::At(_) => "at",
+            Reply::Nothing => "nothing",
+            Reply::Animals(_) => "animals",
+            Reply::Chain(_) => "chain",
+            Reply::NoJourney => "no journey",
+        }
+    }
+}
+
+impl From<Opened> for Reply {
+    fn from(answer: Opened) -> Reply {
+        match answer {
+            Opened::Opened => Reply::Opened,
+            Opened::Refused(number) => Reply::Refused(number),
+        }
+    }
+}
+
+impl From<Read> for Reply {
+    fn from(answer: Read) -> Reply {
+        match answer {
+            Read::Contacts(contacts) => Reply::Read(contacts),
+            Read::Refused(number) => Reply::Refused(number),
+        }
+    }
+}
+
+impl From<Added> for Reply {
+    fn from(answer: Added) -> Reply {
+        match answer {
+            Added::New(cells) => Reply::New(cells),
+            Added::Known(cells) => Reply::Known(cells),
+            Added::Refused(number) => Reply::Refused(number),
+        }
+    }
+}
+
+impl From<Written> for Reply {
+    fn from(answer: Written) -> Reply {
+        match answer {
+            Written::Written(words) => Reply::Written(words),
+            Written::Refused(number) => Reply::Refused(number),
+        }
+    }
+}
+
+impl From<Answer> for Reply {
+    fn from(answer: Answer) -> Reply {
+        match answer {
+            Answer::Yes => Reply::Yes,
+            Answer::No => Reply::No,
+            Answer::Refused(number) => Reply::Refused(number),
+        }
+    }
+}
+
+impl From<Tick> for Reply {
+    fn from(answer: Tick) -> Reply {
+        match answer {
+            Tick::At(tick) => Reply::At(tick),
+            Tick::Nothing => Reply::Nothing,
+            Tick::Refused(number) => Reply::Refused(number),
+        }
+    }
+}
+
+impl From<Reached> for Reply {
+    fn from(answer: Reached) -> Reply {
+        match answer {
+            Reached::Animals(animals) => Reply::Animals(animals),
+            Reached::Refused(number) => Reply::Refused(number),
+        }
+    }
+}
+
+impl From<Chain> for Reply {
+    fn from(answer: Chain) -> Reply {
+        match answer {
+            Chain::Contacts(contacts) => Reply::Chain(contacts),
+            Chain::NoJourney => Reply::NoJourney,
+            Chain::Refused(number) => Reply::Refused(number),
+        }
+    }
+}

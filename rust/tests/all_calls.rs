@@ -1,0 +1,567 @@
+//! Every call on good tables, against the plain search where adds built them and against document 01's text where not.
+
+use herd::testing::cases;
+use herd::testing::model::{self, Contacts};
+use herd::testing::random::Random;
+use herd::testing::suite::call::Call;
+use herd::testing::suite::lent::Lent;
+use herd::testing::suite::reply::{Export, Reply};
+use herd::testing::suite::{draws, Suite};
+use herd::testing::words::{self, Cells, Interval, Opening};
+
+/// The refusals on a good table.
+const ON_GOOD_TABLES: [u32; 5] = [7, 8, 9, 10, 15];
+
+/// The calls that ask for a window or a tick.
+const QUESTIONS: [Export; 7] = [
+    Export::Reach,
+    Export::Earliest,
+    Export::Latest,
+    Export::Connected,
+    Export::Reached,
+    Export::Chain,
+    Export::Claimed,
+];
+
+/// Whether some stored interval is that of two contacts or more.
+fn has_joined(opening: Opening, cells: &Cells) -> bool {
+    let joined = |i: &Interval| i.arrival - i.departure > opening.carry;
+    cells.iter().flatten().any(joined)
+}
+
+/// The cells of the fresh table over the contacts that a table holds.
+fn closure(lent: &Lent) -> Cells {
+    let held: Contacts = lent.held.iter().copied().collect();
+    model::minimal_intervals(lent.opening, &held)
+}
+
+/// Fails unless chains of one to so many contacts were told so often.
+#[track_caller]
+fn chains_up_to(suite: &Suite, longest: u32, times: u32) {
+    for contacts in 1..=longest {
+        let met = suite.times(Export::Chain, |reply| reply == Reply::Chain(contacts));
+        assert!(met >= times, "chains of {contacts} contacts: {met}");
+    }
+}
+
+/// Makes the calls whose windows and ticks lie about some of the table's intervals, about so many, and compares.
+fn compare_about(
+    suite: &mut Suite,
+    random: &mut Random,
+    lent: &Lent,
+    cells: &Cells,
+    intervals: usize,
+) {
+    let (n, end) = (lent.opening.animals, lent.opening.last_arrival());
+    let rows: usize = cells.iter().map(Vec::len).sum();
+    for (pair, cell) in cells.iter().enumerate() {
+        let (u, v) = (pair as u32 / n, pair as u32 % n);
+        for interval in cell {
+            if random.below(rows) >= intervals {
+                continue;
+            }
+            let (d, a) = (interval.departure, interval.arrival);
+            for (first, last) in [
+                (d, a),
+                (d + 1, a),
+                (d, a - 1),
+                (d - 1, a),
+                (d, a + 1),
+                (d, end),
+                (d + 1, end),
+                (1, a),
+                (1, a - 1),
+                (a, end),
+                (1, end),
+            ] {
+                suite.compare_pair(random, lent, (u, v), (first, last));
+                let set = draws::set(random);
+                suite.compare(
+                    lent,
+                    &Call::Reached {
+                        u,
+                        first,
+                        last,
+                        set,
+                    },
+                );
+            }
+            for tick in [d - 1, d, d + 1, a - 1, a, a + 1] {
+                suite.compare(lent, &Call::Earliest { u, v, first: tick });
+                suite.compare(lent, &Call::Latest { u, v, last: tick });
+            }
+        }
+    }
+}
+
+#[test]
+fn drawn_calls_on_tables_that_adds_built() {
+    let mut random = Random::new(101);
+    let mut suite = Suite::default();
+    let (mut slow, mut joined) = (0, 0);
+    for _ in 0..2_500 {
+        let lent = draws::built(&mut random);
+        suite.compare_drawn(&mut random, &lent, &Export::ALL, 12);
+        slow += u32::from(lent.opening.carry > lent.opening.ticks);
+        joined += u32::from(has_joined(lent.opening, &closure(&lent)));
+    }
+    suite.at_least(
+        500,
+        &Export::ALL,
+        &[1, 2, 3, 4, 7, 8, 9, 10, 11, 12, 13, 14, 15],
+    );
+    assert!(slow > 100 && joined > 500, "{slow} {joined}");
+}
+
+#[test]
+fn drawn_calls_on_tables_that_no_adds_built() {
+    let mut random = Random::new(102);
+    let mut suite = Suite::default();
+    let mut differing = 0;
+    for _ in 0..2_500 {
+        let lent = draws::stored(&mut random);
+        suite.compare_drawn(&mut random, &lent, &Export::ON_OPEN_TABLES, 12);
+        suite.compare_drawn(&mut random, &lent, &[Export::Add], 48);
+        differing += u32::from(words::table(lent.opening, &closure(&lent)) != lent.words);
+    }
+    suite.at_least(500, &Export::ON_OPEN_TABLES, &ON_GOOD_TABLES);
+    assert!(differing > 1_500, "{differing}");
+    let known = suite.times(Export::Add, |reply| matches!(reply, Reply::Known(1..)));
+    let many = suite.times(Export::Add, |reply| matches!(reply, Reply::New(4..)));
+    assert!(known > 1_000 && many > 1_000, "{known} {many}");
+}
+
+#[test]
+fn every_call_on_tables_that_adds_built() {
+    let mut random = Random::new(103);
+    let mut suite = Suite::default();
+    for _ in 0..500 {
+        let lent = draws::built(&mut random);
+        suite.compare_every(&mut random, &lent, 4);
+    }
+    suite.at_least(150, &Export::ON_OPEN_TABLES, &ON_GOOD_TABLES);
+    suite.at_least(1_000, &QUESTIONS, &ON_GOOD_TABLES);
+    chains_up_to(&suite, 3, 1_000);
+}
+
+#[test]
+fn every_call_on_tables_that_no_adds_built() {
+    let mut random = Random::new(104);
+    let mut suite = Suite::default();
+    for _ in 0..500 {
+        let lent = draws::stored(&mut random);
+        suite.compare_every(&mut random, &lent, 4);
+    }
+    suite.at_least(150, &Export::ON_OPEN_TABLES, &ON_GOOD_TABLES);
+    suite.at_least(1_000, &QUESTIONS, &ON_GOOD_TABLES);
+    chains_up_to(&suite, 3, 300);
+}
+
+#[test]
+fn every_call_on_every_set_of_small_tables() {
+    let mut random = Random::new(105);
+    let mut suite = Suite::default();
+    for (animals, ticks, carry) in [
+        (1, 3, 2),
+        (2, 3, 1),
+        (2, 3, 4),
+        (2, 4, 1),
+        (2, 4, 2),
+        (2, 4, 5),
+        (3, 2, 1),
+        (3, 2, 2),
+        (3, 2, 3),
+        (4, 1, 1),
+    ] {
+        let opening = Opening::new(animals, ticks, carry);
+        let legal = cases::legal_contacts(opening);
+        for bits in 0..1usize << legal.len() {
+            let members = legal.iter().enumerate().filter(|(i, _)| bits >> i & 1 == 1);
+            let mut listed: Vec<_> = members.map(|(_, &contact)| contact).collect();
+            random.shuffle(&mut listed);
+            let lent = Lent::built(&mut random, opening, &listed);
+            suite.compare_every(&mut random, &lent, 12);
+        }
+    }
+    suite.at_least(1_000, &Export::ON_OPEN_TABLES, &ON_GOOD_TABLES);
+    chains_up_to(&suite, 2, 1_000);
+}
+
+#[test]
+fn one_animal_is_connected_and_reaches_none() {
+    let mut random = Random::new(106);
+    let mut suite = Suite::default();
+    for ticks in 1..=12 {
+        let opening = Opening::new(1, ticks, random.between(1, 20));
+        let lent = Lent::built(&mut random, opening, &[]);
+        suite.compare_every(&mut random, &lent, 1);
+        suite.compare_drawn(&mut random, &lent, &Export::ALL, 200);
+    }
+    for export in [Export::Connected, Export::Reached] {
+        let other = [
+            Reply::Yes,
+            Reply::Animals(0),
+            Reply::Refused(7),
+            Reply::Refused(9),
+        ];
+        assert_eq!(suite.times(export, |reply| !other.contains(&reply)), 0);
+        assert!(suite.times(export, |reply| reply == other[0] || reply == other[1]) > 500);
+    }
+    for export in QUESTIONS.into_iter().chain([Export::Add]) {
+        if export != Export::Connected && export != Export::Reached {
+            let refused = |reply| reply == Reply::Refused(7) || reply == Reply::Refused(8);
+            assert_eq!(suite.times(export, |reply| !refused(reply)), 0);
+            assert!(suite.times(export, refused) > 500, "{export:?}");
+        }
+    }
+}
+
+#[test]
+fn calls_about_the_intervals_of_wide_tables_that_adds_built() {
+    let mut random = Random::new(107);
+    let mut suite = Suite::default();
+    for (animals, ticks, carry) in [
+        (2, 1024, 1),
+        (3, 1024, 256),
+        (3, 1023, 2),
+        (4, 600, 100),
+        (5, 20, 256),
+        (8, 64, 1),
+        (12, 64, 3),
+        (33, 40, 1),
+        (40, 30, 2),
+        (100, 6, 1),
+        (200, 3, 1),
+        (256, 4, 1),
+    ] {
+        let opening = Opening::new(animals, ticks, carry);
+        let contacts = cases::following_contacts(&mut random, opening, 120);
+        let lent = Lent::built(&mut random, opening, &contacts);
+        let few = lent.words.len() > 50_000;
+        let (intervals, drawn) = if few { (10, 40) } else { (100, 200) };
+        compare_about(&mut suite, &mut random, &lent, &closure(&lent), intervals);
+        suite.compare_drawn(&mut random, &lent, &Export::ON_OPEN_TABLES, drawn);
+    }
+    let others = [Export::WriteLog, Export::Add, Export::Reached];
+    suite.at_least(20, &others, &ON_GOOD_TABLES);
+    let asked = [
+        Export::Reach,
+        Export::Earliest,
+        Export::Latest,
+        Export::Chain,
+    ];
+    suite.at_least(40, &asked, &ON_GOOD_TABLES);
+    chains_up_to(&suite, 6, 20);
+}
+
+#[test]
+fn calls_about_the_rows_of_long_cells_that_no_adds_built() {
+    let mut random = Random::new(108);
+    let mut suite = Suite::default();
+    for (animals, ticks, carry) in [
+        (2, 1024, 256),
+        (2, 1023, 1),
+        (3, 1024, 1),
+        (3, 1000, 7),
+        (3, 513, 7),
+        (4, 500, 7),
+        (4, 200, 3),
+        (8, 60, 256),
+        (30, 9, 1),
+        (33, 12, 2),
+        (256, 3, 1),
+    ] {
+        let opening = Opening::new(animals, ticks, carry);
+        for _ in 0..6 {
+            let cells = cases::cells(&mut random, opening);
+            let lent = Lent::stored(opening, &cells);
+            let few = lent.words.len() > 50_000;
+            let (intervals, drawn) = if few { (3, 10) } else { (60, 40) };
+            compare_about(&mut suite, &mut random, &lent, &cells, intervals);
+            suite.compare_drawn(&mut random, &lent, &Export::ON_OPEN_TABLES, drawn);
+        }
+    }
+    let others = [
+        Export::WriteLog,
+        Export::Add,
+        Export::Reached,
+        Export::Claimed,
+    ];
+    suite.at_least(40, &others, &ON_GOOD_TABLES);
+    let asked = [
+        Export::Reach,
+        Export::Earliest,
+        Export::Latest,
+        Export::Chain,
+    ];
+    suite.at_least(40, &asked, &ON_GOOD_TABLES);
+}
+
+#[test]
+fn every_window_and_tick_of_every_cell_length() {
+    let mut random = Random::new(109);
+    let mut suite = Suite::default();
+    for ticks in 1..=40 {
+        let opening = Opening::new(2, ticks, random.between(1, 9));
+        let end = opening.last_arrival();
+        let full = cases::full_cells(opening);
+        for rows in 0..=ticks as usize {
+            let mut cells = full.clone();
+            while cells[1].len() > rows {
+                let row = random.below(cells[1].len());
+                cells[1].remove(row);
+            }
+            let lent = Lent::stored(opening, &cells);
+            for first in 1..=end {
+                for last in first..=end {
+                    let (u, v, set) = (0, 1, Vec::new());
+                    suite.compare(&lent, &Call::Reach { u, v, first, last });
+                    if random.once_in(4) {
+                        suite.compare(&lent, &Call::Connected { first, last });
+                        suite.compare(
+                            &lent,
+                            &Call::Reached {
+                                u,
+                                first,
+                                last,
+                                set,
+                            },
+                        );
+                    }
+                }
+                let (u, v) = (0, 1);
+                suite.compare(&lent, &Call::Earliest { u, v, first });
+                suite.compare(&lent, &Call::Latest { u, v, last: first });
+            }
+        }
+    }
+    suite.at_least(5_000, &[Export::Reach, Export::Connected], &[]);
+    suite.at_least(5_000, &[Export::Earliest, Export::Latest], &[]);
+}
+
+/// Numbers near these, their neighbours and what they are in other widths, and far ones.
+fn edges(near: &[u32]) -> Vec<u32> {
+    let far = [
+        0,
+        1,
+        2,
+        255,
+        256,
+        257,
+        1 << 11,
+        1 << 16,
+        1 << 18,
+        1 << 31,
+        u32::MAX,
+    ];
+    let mut edges = far.to_vec();
+    for &near in near {
+        let wrapped = [0u32.wrapping_sub(near), near | 1 << 16, near | 1 << 31];
+        edges.extend([near - 1, near, near + 1].iter().chain(&wrapped));
+    }
+    edges.sort();
+    edges.dedup();
+    edges
+}
+
+#[test]
+fn numbers_at_their_edges() {
+    let mut random = Random::new(110);
+    let mut suite = Suite::default();
+    for (animals, ticks, carry) in [
+        (1, 1, 1),
+        (1, 12, 3),
+        (2, 1, 256),
+        (2, 1024, 256),
+        (3, 6, 2),
+        (7, 5, 1),
+        (8, 20, 3),
+        (33, 3, 1),
+        (256, 2, 1),
+    ] {
+        let opening = Opening::new(animals, ticks, carry);
+        let lent = Lent::stored(opening, &cases::cells(&mut random, opening));
+        let asked_of = edges(&[animals]);
+        let tick_edges = edges(&[ticks, opening.last_arrival()]);
+        let every = lent.words.len() < 1_000;
+        for &u in &asked_of {
+            for &v in &asked_of {
+                let rarely = match (every, u < animals && v < animals) {
+                    (true, true) => 1,
+                    (true, false) => 8,
+                    (false, true) => 20,
+                    (false, false) => 2_000,
+                };
+                for t in edges(&[ticks]) {
+                    if random.once_in(rarely) {
+                        suite.compare(&lent, &Call::Add { u, v, t });
+                    }
+                }
+                for &first in &tick_edges {
+                    if random.once_in(rarely) {
+                        suite.compare(&lent, &Call::Earliest { u, v, first });
+                        suite.compare(&lent, &Call::Latest { u, v, last: first });
+                    }
+                    for &last in &tick_edges {
+                        if random.once_in(rarely) {
+                            suite.compare_pair(&mut random, &lent, (u, v), (first, last));
+                        }
+                    }
+                }
+            }
+            for &first in &tick_edges {
+                for &last in &tick_edges {
+                    if every || random.once_in(50) {
+                        let set = draws::set(&mut random);
+                        suite.compare(
+                            &lent,
+                            &Call::Reached {
+                                u,
+                                first,
+                                last,
+                                set,
+                            },
+                        );
+                        suite.compare(&lent, &Call::Connected { first, last });
+                    }
+                }
+            }
+        }
+    }
+    let asked = [Export::Add, Export::Reach, Export::Chain];
+    suite.at_least(20, &asked, &[7, 8, 9, 10]);
+    suite.at_least(40, &[Export::Earliest, Export::Latest], &[7, 8, 9]);
+    suite.at_least(
+        40,
+        &[Export::Connected, Export::Reached, Export::Claimed],
+        &[7, 8, 9],
+    );
+}
+
+#[test]
+fn refusals_come_in_order() {
+    let mut random = Random::new(111);
+    let mut suite = Suite::default();
+    let opening = Opening::new(3, 4, 2);
+    let mut cells = cases::full_cells(opening);
+    cells[opening.pair(0, 2)].clear();
+    let good = Lent::stored(opening, &cells);
+    let mut damaged = good.words.clone();
+    damaged[opening.cell_start(2, 2)] = words::count_word(1);
+    let mut unopened = damaged.clone();
+    unopened[0] |= 1 << 26;
+    let tables = [
+        (good.words.clone(), None),
+        (damaged.clone(), Some(6)),
+        (damaged[1..].to_vec(), Some(5)),
+        (damaged[..damaged.len() - 1].to_vec(), Some(5)),
+        (unopened, Some(5)),
+        (Vec::new(), Some(5)),
+    ];
+    let animals = [
+        (0, None),
+        (1, None),
+        (2, None),
+        (3, Some(7)),
+        (u32::MAX, Some(7)),
+    ];
+    let ticks = [
+        (1, None),
+        (3, None),
+        (4, None),
+        (0, Some(9)),
+        (5, Some(9)),
+        (u32::MAX, Some(9)),
+    ];
+    let moments = [
+        (1, None),
+        (6, None),
+        (0, Some(9)),
+        (7, Some(9)),
+        (u32::MAX, Some(9)),
+    ];
+    let windows = [
+        ((1, 6), None),
+        ((1, 1), None),
+        ((0, 6), Some(9)),
+        ((1, 7), Some(9)),
+        ((5, 4), Some(9)),
+        ((0, 0), Some(9)),
+        ((7, 7), Some(9)),
+        ((0, u32::MAX), Some(9)),
+    ];
+    for (words, table) in tables {
+        let lent = good.with(words);
+        let mut ask = |refusals: &[Option<u32>], call: Call| {
+            let reply = suite.compare_at_guards(&lent, &call);
+            let refused = match reply {
+                Reply::Refused(number) => Some(number),
+                _ => None,
+            };
+            let first = refusals.iter().flatten().next().copied();
+            assert_eq!(refused, table.or(first), "{call:?}");
+        };
+        for room in 0..25 {
+            let short = (room < 22).then_some(15);
+            let buffer = random.words(room);
+            ask(&[short], Call::WriteLog { buffer });
+        }
+        for ((first, last), window) in windows {
+            ask(&[window], Call::Connected { first, last });
+            for (u, animal) in animals {
+                for room in 0..10 {
+                    let set = random.words(room);
+                    ask(
+                        &[animal, window],
+                        Call::Reached {
+                            u,
+                            first,
+                            last,
+                            set,
+                        },
+                    );
+                }
+            }
+        }
+        for (u, left) in animals {
+            for (v, met) in animals {
+                let pair = left.or(met).or((u == v).then_some(8));
+                for (t, tick) in ticks {
+                    ask(&[pair, tick], Call::Add { u, v, t });
+                }
+                for (tick, moment) in moments {
+                    ask(&[pair, moment], Call::Earliest { u, v, first: tick });
+                    ask(&[pair, moment], Call::Latest { u, v, last: tick });
+                }
+                for ((first, last), window) in windows {
+                    ask(&[pair, window], Call::Reach { u, v, first, last });
+                    for room in 0..5 {
+                        let short = (room < 2).then_some(10);
+                        let buffer = random.words(room);
+                        let call = Call::Chain {
+                            u,
+                            v,
+                            first,
+                            last,
+                            buffer,
+                        };
+                        ask(&[pair, window, short], call);
+                        let chain = random.words(room);
+                        let call = Call::Claimed {
+                            u,
+                            v,
+                            first,
+                            last,
+                            chain,
+                        };
+                        ask(&[pair, window], call);
+                    }
+                }
+            }
+        }
+    }
+    let asked = [Export::Add, Export::Reach, Export::Chain, Export::WriteLog];
+    suite.at_least(3, &asked, &[5, 6, 7, 8, 9, 10, 15]);
+    let asked = [Export::Earliest, Export::Latest, Export::Reached];
+    suite.at_least(3, &asked, &[5, 6, 7, 8, 9]);
+}

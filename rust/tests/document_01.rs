@@ -1,0 +1,315 @@
+//! The session, the marked examples and the unmarked ones of document 01, in every loading order.
+
+use herd::testing::compare::same_words;
+use herd::testing::model;
+use herd::testing::random::Random;
+use herd::testing::suite::call::Call;
+use herd::testing::suite::lent::Lent;
+use herd::testing::suite::reply::{Export, Reply};
+use herd::testing::suite::Suite;
+use herd::testing::words::{self, Contact, Interval, Opening};
+use herd::{Added, Chain, Opened, Reached, Read, Written};
+
+/// The session's log.
+const LOG: [u32; 5] = [
+    0x800C_0005,
+    0x4000_0400,
+    0x4000_0401,
+    0x4004_0C03,
+    0xC000_0003,
+];
+
+/// The contacts of these triples.
+fn contacts<const N: usize>(listed: [(u32, u32, u32); N]) -> [Contact; N] {
+    listed.map(|(u, v, t)| Contact::new(u, v, t))
+}
+
+/// The contacts of the session.
+fn session() -> [Contact; 3] {
+    contacts([(0, 1, 1), (0, 1, 2), (1, 3, 4)])
+}
+
+/// Every order of the items.
+fn orders<T: Copy>(items: &[T]) -> Vec<Vec<T>> {
+    let mut orders = vec![Vec::new()];
+    for (number, &item) in items.iter().enumerate() {
+        let mut longer = Vec::new();
+        for order in &orders {
+            for place in 0..=number {
+                let mut one: Vec<T> = order.clone();
+                one.insert(place, item);
+                longer.push(one);
+            }
+        }
+        orders = longer;
+    }
+    orders
+}
+
+/// The words of the session's table.
+fn session_table() -> Vec<u32> {
+    let mut table = vec![0; 113];
+    table[0] = 0x800C_0005;
+    for cell in table[1..].chunks_mut(7) {
+        cell[0] = 0xC000_0000;
+    }
+    table[8..11].copy_from_slice(&[0xC000_0002, 0x4000_0802, 0x4000_1003]);
+    table[22..24].copy_from_slice(&[0xC000_0001, 0x4000_1005]);
+    table[50..52].copy_from_slice(&[0xC000_0001, 0x4000_2005]);
+    table
+}
+
+#[test]
+fn words_of_the_session() {
+    let mut random = Random::new(1);
+    for order in orders(&[LOG[1], LOG[2], LOG[3]]) {
+        let mut table = random.words(113);
+        let log = [&LOG[..1], &order, &LOG[4..]].concat();
+        assert_eq!(herd::read_log(&log, &mut table), Read::Contacts(3));
+        same_words(&table, &session_table(), &order);
+        let [a, b, c] = [order[0], order[1], order[2]];
+        let repeated = [LOG[0], a, b, b, c, a, a, 0xC000_0006];
+        table = random.words(113);
+        assert_eq!(herd::read_log(&repeated, &mut table), Read::Contacts(3));
+        same_words(&table, &session_table(), &order);
+    }
+    for order in orders(&session()) {
+        let mut table = random.words(113);
+        assert_eq!(herd::open(&mut table, 4, 6, 1), Opened::Opened);
+        for contact in &order {
+            let added = herd::add(&mut table, contact.from, contact.to, contact.tick);
+            assert!(matches!(added, Added::New(_)), "{order:?} {added:?}");
+        }
+        same_words(&table, &session_table(), &order);
+        let mut buffer = [9; 6];
+        let written = herd::write_log(&table, &mut buffer);
+        assert_eq!(written, Written::Written(5));
+        assert_eq!(buffer[..5], LOG);
+        assert_eq!(buffer[5], 9);
+        let mut buffer = [7; 5];
+        let chain = herd::chain(&table, 0, 3, 1, 7, &mut buffer);
+        assert_eq!(chain, Chain::Contacts(2));
+        assert_eq!(buffer, [0x4000_0401, 0x4004_0C03, 7, 7, 7]);
+        let mut set = [7; 9];
+        let reached = herd::reached(&table, 0, 1, 7, &mut set);
+        assert_eq!(reached, Reached::Animals(2));
+        assert_eq!(set, [0b1010, 0, 0, 0, 0, 0, 0, 0, 7]);
+    }
+}
+
+#[test]
+fn marked_and_unmarked_answers_of_the_session() {
+    let reach = |u, v, first, last| Call::Reach { u, v, first, last };
+    let earliest = |u, v, first| Call::Earliest { u, v, first };
+    let latest = |u, v, last| Call::Latest { u, v, last };
+    let reached = |u, first, last| Call::Reached {
+        u,
+        first,
+        last,
+        set: vec![7; 8],
+    };
+    let chain = |u, v, first, last, room| Call::Chain {
+        u,
+        v,
+        first,
+        last,
+        buffer: vec![7; room],
+    };
+    let claimed = |u, v, first, last, chain: &[u32]| Call::Claimed {
+        u,
+        v,
+        first,
+        last,
+        chain: chain.to_vec(),
+    };
+    let p6 = [LOG[2], LOG[3]];
+    let asked = [
+        ("P1", reach(0, 3, 1, 5), Reply::Yes),
+        ("P1", reach(0, 3, 2, 5), Reply::Yes),
+        ("P2", reach(0, 3, 1, 4), Reply::No),
+        ("P2", reach(0, 3, 3, 7), Reply::No),
+        ("P3", reach(3, 0, 1, 7), Reply::No),
+        ("P4", earliest(0, 3, 2), Reply::At(5)),
+        ("P4", earliest(0, 3, 3), Reply::Nothing),
+        ("P5", latest(0, 3, 5), Reply::At(2)),
+        ("P5", latest(0, 3, 4), Reply::Nothing),
+        ("P6", chain(0, 3, 1, 7, 3), Reply::Chain(2)),
+        ("whole window", reach(0, 3, 1, 7), Reply::Yes),
+        ("one tick more", reach(0, 3, 1, 8), Reply::Refused(9)),
+        ("from tick 0", reach(0, 3, 0, 5), Reply::Refused(9)),
+        ("last first", reach(0, 3, 5, 2), Reply::Refused(9)),
+        ("one animal", reach(3, 3, 1, 5), Reply::Refused(8)),
+        ("animal 4", reach(0, 4, 1, 5), Reply::Refused(7)),
+        ("from 1", earliest(0, 3, 1), Reply::At(5)),
+        ("from 1", earliest(0, 1, 1), Reply::At(2)),
+        ("last tick", earliest(0, 3, 7), Reply::Nothing),
+        ("one tick more", earliest(0, 3, 8), Reply::Refused(9)),
+        ("tick 0", earliest(0, 3, 0), Reply::Refused(9)),
+        ("by the last tick", latest(0, 1, 7), Reply::At(2)),
+        ("by tick 2", latest(0, 1, 2), Reply::At(1)),
+        ("one tick more", latest(0, 3, 8), Reply::Refused(9)),
+        ("tick 0", latest(0, 3, 0), Reply::Refused(9)),
+        ("all", reached(0, 1, 7), Reply::Animals(2)),
+        ("from 3 on", reached(0, 3, 7), Reply::Animals(0)),
+        ("by 4", reached(0, 1, 4), Reply::Animals(1)),
+        ("animal 4", reached(4, 1, 7), Reply::Refused(7)),
+        ("tightest", chain(0, 3, 2, 5, 4), Reply::Chain(2)),
+        ("later", chain(0, 3, 3, 7, 5), Reply::NoJourney),
+        ("shorter", chain(0, 3, 1, 4, 9), Reply::NoJourney),
+        ("backward", chain(3, 0, 1, 7, 3), Reply::NoJourney),
+        ("first of two", chain(0, 1, 1, 7, 3), Reply::Chain(1)),
+        ("second of two", chain(0, 1, 2, 7, 3), Reply::Chain(1)),
+        ("short buffer", chain(0, 3, 1, 7, 2), Reply::Refused(10)),
+        ("no buffer", chain(0, 3, 1, 7, 0), Reply::Refused(10)),
+        ("one tick more", chain(0, 3, 1, 8, 3), Reply::Refused(9)),
+        ("P6 claimed", claimed(0, 3, 1, 7, &p6), Reply::Yes),
+        ("tightest", claimed(0, 3, 2, 5, &p6), Reply::Yes),
+        ("later", claimed(0, 3, 3, 7, &p6), Reply::No),
+        ("shorter", claimed(0, 3, 1, 4, &p6), Reply::No),
+        (
+            "earlier way",
+            claimed(0, 3, 1, 7, &[LOG[1], LOG[3]]),
+            Reply::Yes,
+        ),
+        ("to 1", claimed(0, 1, 1, 7, &p6), Reply::No),
+        ("half", claimed(0, 3, 1, 7, &p6[..1]), Reply::No),
+        ("nothing", claimed(0, 3, 1, 7, &[]), Reply::No),
+        ("one tick more", claimed(0, 3, 1, 8, &p6), Reply::Refused(9)),
+    ];
+    let mut random = Random::new(2);
+    let mut suite = Suite::default();
+    for order in orders(&session()) {
+        let lent = Lent::built(&mut random, Opening::new(4, 6, 1), &order);
+        for (_, call, reply) in &asked {
+            suite.require(&lent, call, *reply);
+        }
+        for (first, last) in [(1, 7), (2, 5), (7, 7)] {
+            suite.require(&lent, &Call::Connected { first, last }, Reply::No);
+        }
+    }
+    let lent = Lent::built(&mut random, Opening::new(4, 6, 1), &session());
+    suite.require(&lent, &Call::Add { u: 2, v: 0, t: 6 }, Reply::New(1));
+    suite.require(&lent, &Call::Add { u: 2, v: 0, t: 7 }, Reply::Refused(9));
+    suite.require(&lent, &Call::Add { u: 0, v: 1, t: 1 }, Reply::Known(0));
+}
+
+#[test]
+fn longer_carry_times() {
+    let mut random = Random::new(3);
+    let mut suite = Suite::default();
+    for (carry, departure, arrival) in [(1, 2, 5), (2, 2, 6), (3, 1, 7)] {
+        let opening = Opening::new(4, 6, carry);
+        for order in orders(&session()) {
+            let lent = Lent::built(&mut random, opening, &order);
+            let start = opening.cell_start(0, 3);
+            let cell = words::interval_word(Interval::new(departure, arrival));
+            assert_eq!(lent.words[start..start + 3], [0xC000_0001, cell, 0]);
+            let way = contacts([(0, 1, departure), (1, 3, 4)]);
+            let found = model::minimal_intervals(opening, &order.iter().copied().collect());
+            let expected = [Interval::new(departure, arrival)];
+            assert_eq!(found[opening.pair(0, 3)], expected);
+            let end = opening.last_arrival();
+            let (u, v) = (0, 3);
+            for (first, last, fits) in [
+                (departure, arrival, true),
+                (1, end, true),
+                (departure, arrival - 1, false),
+                (1, arrival - 1, false),
+                (departure + 1, arrival, false),
+                (departure + 1, end, false),
+            ] {
+                let (yes, number) = match fits {
+                    true => (Reply::Yes, Reply::Chain(2)),
+                    false => (Reply::No, Reply::NoJourney),
+                };
+                suite.require(&lent, &Call::Reach { u, v, first, last }, yes);
+                let chain = words::contact_words(&way);
+                let claimed = Call::Claimed {
+                    u,
+                    v,
+                    first,
+                    last,
+                    chain,
+                };
+                suite.require(&lent, &claimed, yes);
+                let buffer = random.words(4);
+                let call = Call::Chain {
+                    u,
+                    v,
+                    first,
+                    last,
+                    buffer,
+                };
+                suite.require(&lent, &call, number);
+            }
+            let (first, last) = (departure, arrival);
+            suite.require(&lent, &Call::Earliest { u, v, first }, Reply::At(last));
+            suite.require(&lent, &Call::Latest { u, v, last }, Reply::At(first));
+        }
+    }
+}
+
+#[test]
+fn adds_of_the_session_in_an_order_of_their_own() {
+    for carry in 1..=3 {
+        let mut table = vec![9; 113];
+        assert_eq!(herd::open(&mut table, 4, 6, carry), Opened::Opened);
+        assert_eq!(herd::add(&mut table, 1, 3, 4), Added::New(1));
+        assert_eq!(herd::add(&mut table, 0, 1, 1), Added::New(2));
+        let joined = if carry < 3 { 2 } else { 1 };
+        assert_eq!(herd::add(&mut table, 0, 1, 2), Added::New(joined));
+        assert_eq!(herd::add(&mut table, 0, 1, 1), Added::Known(0));
+    }
+}
+
+#[test]
+fn five_animals() {
+    let mut random = Random::new(4);
+    let mut suite = Suite::default();
+    let opening = Opening::new(5, 6, 1);
+    let set = contacts([(0, 2, 1), (2, 3, 2), (0, 1, 1), (1, 3, 4), (3, 4, 6)]);
+    let p9 = words::contact_words(&[set[2], set[3], set[4]]);
+    let by_two = words::contact_words(&[set[0], set[1]]);
+    let orders = orders(&set);
+    assert_eq!(orders.len(), 120);
+    for order in orders {
+        let lent = Lent::built(&mut random, opening, &order);
+        for ((u, v), interval) in [((0, 3), (1, 3)), ((0, 4), (1, 7))] {
+            let start = opening.cell_start(u, v);
+            let cell = words::interval_word(Interval::new(interval.0, interval.1));
+            assert_eq!(lent.words[start..start + 3], [0xC000_0001, cell, 0]);
+        }
+        for (question, expected) in [
+            ((0, 4, 1, 7), &p9[..]),
+            ((0, 3, 1, 7), &by_two),
+            ((0, 4, 2, 7), &[]),
+            ((0, 4, 1, 6), &[]),
+        ] {
+            let (u, v, first, last) = question;
+            let mut buffer = [7; 6];
+            let answer = herd::chain(&lent.words, u, v, first, last, &mut buffer);
+            let told = match expected.len() as u32 {
+                0 => Chain::NoJourney,
+                contacts => Chain::Contacts(contacts),
+            };
+            assert_eq!(answer, told, "{question:?} {order:?}");
+            assert_eq!(buffer[..expected.len()], *expected, "{question:?}");
+            assert!(buffer[expected.len()..].iter().all(|&word| word == 7));
+        }
+        suite.compare_every(&mut random, &lent, 12);
+    }
+    let asked = [
+        Export::Reach,
+        Export::Earliest,
+        Export::Latest,
+        Export::Chain,
+    ];
+    suite.at_least(100, &asked, &[7, 8, 9, 10]);
+    let asked = [
+        Export::Add,
+        Export::WriteLog,
+        Export::Reached,
+        Export::Claimed,
+    ];
+    suite.at_least(20, &asked, &[7, 8, 9, 15]);
+}

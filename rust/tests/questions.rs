@@ -1,0 +1,215 @@
+//! Questions whose answers can be said by a formula.
+
+use herd::testing::cases;
+use herd::testing::random::Random;
+use herd::testing::suite::call::Call;
+use herd::testing::suite::lent::Lent;
+use herd::testing::suite::reply::Reply;
+use herd::testing::suite::Suite;
+use herd::testing::words::{self, Contact, Interval, Opening};
+
+/// Yes where it is so, else no.
+fn answered(so: bool) -> Reply {
+    if so {
+        Reply::Yes
+    } else {
+        Reply::No
+    }
+}
+
+/// The tick where it is one, else nothing.
+fn told(is_one: bool, tick: u32) -> Reply {
+    if is_one {
+        Reply::At(tick)
+    } else {
+        Reply::Nothing
+    }
+}
+
+#[test]
+fn windows_and_ticks_at_the_edges_of_full_tables() {
+    let mut suite = Suite::default();
+    for (ticks, carry) in [(1, 1), (1, 256), (5, 1), (6, 9), (12, 3), (300, 256)] {
+        let opening = Opening::new(2, ticks, carry);
+        let end = opening.last_arrival();
+        let lent = Lent::stored(opening, &cases::full_cells(opening));
+        let (u, v) = (1, 0);
+        let mut ask = |first, last, reply: Reply| {
+            suite.require(&lent, &Call::Reach { u, v, first, last }, reply);
+            suite.require(&lent, &Call::Connected { first, last }, reply);
+            let animals = match reply {
+                Reply::Yes => Reply::Animals(1),
+                Reply::No => Reply::Animals(0),
+                refused => refused,
+            };
+            let set = vec![5; 8];
+            let call = Call::Reached {
+                u,
+                first,
+                last,
+                set,
+            };
+            suite.require(&lent, &call, animals);
+        };
+        for tick in 1..=end {
+            ask(tick, tick, Reply::No);
+            ask(tick, end, answered(tick <= ticks));
+            ask(1, tick, answered(tick > carry));
+            ask(0, tick, Reply::Refused(9));
+            ask(tick, end + 1, Reply::Refused(9));
+            ask(tick, tick - 1, Reply::Refused(9));
+        }
+        for tick in 1..=ticks {
+            ask(tick, tick + carry, Reply::Yes);
+            ask(tick, tick + carry - 1, Reply::No);
+        }
+        ask(end + 1, end + 1, Reply::Refused(9));
+        for tick in 1..=end {
+            let arrival = told(tick <= ticks, tick + carry);
+            suite.require(&lent, &Call::Earliest { u, v, first: tick }, arrival);
+            let departure = told(tick > carry, tick.max(carry) - carry);
+            suite.require(&lent, &Call::Latest { u, v, last: tick }, departure);
+        }
+        for tick in [0, end + 1, end + 2, u32::MAX] {
+            let refused = Reply::Refused(9);
+            suite.require(&lent, &Call::Earliest { u, v, first: tick }, refused);
+            suite.require(&lent, &Call::Latest { u, v, last: tick }, refused);
+        }
+    }
+}
+
+#[test]
+fn earliest_and_latest_go_by_the_row_next_to_the_tick() {
+    let mut suite = Suite::default();
+    let opening = Opening::new(2, 40, 2);
+    let rows = [(3, 6), (4, 9), (10, 12), (11, 20), (25, 30), (40, 42)];
+    let mut cells = vec![Vec::new(); opening.pairs()];
+    cells[1] = rows.map(|(d, a)| Interval::new(d, a)).to_vec();
+    let lent = Lent::stored(opening, &cells);
+    let (u, v) = (0, 1);
+    for tick in 1..=42 {
+        let next = rows.iter().find(|(departure, _)| *departure >= tick);
+        let arrival = next.map_or(Reply::Nothing, |&(_, arrival)| Reply::At(arrival));
+        suite.require(&lent, &Call::Earliest { u, v, first: tick }, arrival);
+        let before = rows.iter().rev().find(|(_, arrival)| *arrival <= tick);
+        let departure = before.map_or(Reply::Nothing, |&(departure, _)| Reply::At(departure));
+        suite.require(&lent, &Call::Latest { u, v, last: tick }, departure);
+    }
+}
+
+#[test]
+fn connected_misses_no_pair() {
+    let mut random = Random::new(1_101);
+    let mut suite = Suite::default();
+    for (animals, carry) in [(2, 1), (3, 256), (8, 2), (33, 1)] {
+        let opening = Opening::new(animals, 1, carry);
+        let full = cases::full_cells(opening);
+        let window = Call::Connected {
+            first: 1,
+            last: opening.last_arrival(),
+        };
+        suite.require(&Lent::stored(opening, &full), &window, Reply::Yes);
+        for pair in 0..opening.pairs() {
+            let is_one = pair % (animals as usize + 1) == 0;
+            if !is_one && (animals < 10 || random.once_in(8)) {
+                let mut cells = full.clone();
+                cells[pair].clear();
+                let lent = Lent::stored(opening, &cells);
+                suite.require(&lent, &window, Reply::No);
+            }
+        }
+    }
+}
+
+#[test]
+fn a_ring_is_connected_in_time() {
+    let mut suite = Suite::default();
+    for animals in [2, 3, 5, 8, 33] {
+        let ticks = 2 * animals;
+        let opening = Opening::new(animals, ticks, 1);
+        let ring = (1..=ticks)
+            .flat_map(|t| (0..animals).map(move |u| Contact::new(u, (u + 1) % animals, t)))
+            .collect();
+        let lent = Lent::fresh(opening, ring);
+        for length in [1, animals - 2, animals - 1, animals, ticks] {
+            let (first, last) = (2, (2 + length).min(opening.last_arrival()));
+            let reply = answered(length + 1 >= animals);
+            suite.require(&lent, &Call::Connected { first, last }, reply);
+        }
+    }
+}
+
+#[test]
+fn sets_of_many_animals() {
+    let mut random = Random::new(1_102);
+    let mut suite = Suite::default();
+    for animals in [1, 2, 8, 31, 32, 33, 63, 64, 65, 128, 255, 256] {
+        let opening = Opening::new(animals, 1, 2);
+        for round in 0..4 {
+            let u = random.between(0, animals - 1);
+            let others = (0..animals).filter(|&v| v != u);
+            let met: Vec<u32> = match round {
+                0 => others.collect(),
+                1 => others.filter(|v| [0, 31, 32, 255].contains(v)).collect(),
+                _ => others.filter(|_| random.once_in(2)).collect(),
+            };
+            let contacts = met.iter().map(|&v| Contact::new(u, v, 1)).collect();
+            let lent = Lent::fresh(opening, contacts);
+            for room in 0..=9 {
+                let set = random.words(room);
+                let mut after = set.clone();
+                for (j, word) in after.iter_mut().enumerate().take(8) {
+                    let is_in = |b: &u32| met.contains(&(32 * j as u32 + b));
+                    *word = (0..32).filter(is_in).map(|b| 1 << b).sum();
+                }
+                let (first, last) = (1, 3);
+                let mut lent_set = set.clone();
+                let reached = herd::reached(&lent.words, u, first, last, &mut lent_set);
+                assert_eq!(reached, herd::Reached::Animals(met.len() as u32));
+                assert_eq!(lent_set, after, "{opening:?} {u} {room}");
+                let call = Call::Reached {
+                    u,
+                    first,
+                    last,
+                    set,
+                };
+                suite.require(&lent, &call, Reply::Animals(met.len() as u32));
+            }
+        }
+    }
+}
+
+#[test]
+fn stored_intervals_stand_for_the_journeys() {
+    let mut random = Random::new(1_103);
+    let mut suite = Suite::default();
+    let opening = Opening::new(3, 8, 1);
+    let mut cells = vec![Vec::new(); opening.pairs()];
+    cells[opening.pair(0, 2)].push(Interval::new(2, 7));
+    cells[opening.pair(0, 1)].push(Interval::new(2, 3));
+    cells[opening.pair(1, 2)].push(Interval::new(4, 5));
+    let lent = Lent::stored(opening, &cells);
+    let (u, v, first, last) = (0, 2, 1, 9);
+    suite.require(&lent, &Call::Reach { u, v, first, last }, Reply::Yes);
+    suite.require(&lent, &Call::Earliest { u, v, first }, Reply::At(7));
+    suite.require(&lent, &Call::Latest { u, v, last: 6 }, Reply::Nothing);
+    let buffer = random.words(2);
+    let call = Call::Chain {
+        u,
+        v,
+        first,
+        last,
+        buffer,
+    };
+    suite.require(&lent, &call, Reply::NoJourney);
+    let way = [Contact::new(0, 1, 2), Contact::new(1, 2, 4)];
+    let chain = words::contact_words(&way);
+    let call = Call::Claimed {
+        u,
+        v,
+        first,
+        last,
+        chain,
+    };
+    suite.require(&lent, &call, Reply::Yes);
+}
