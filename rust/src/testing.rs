@@ -1,9 +1,12 @@
 //! What the comparison tests and the bench need; no part of the product.
 //!
-//! `suite` compares calls with what they must come to. `model` says by a plain search over contacts what a table must hold
-//! and answer; `rule`, `check` and `calls` say it from the text of document 01, for tables that no adds built. `sheet` says
-//! what the printing program writes. `words` has the layout of words, `cases` and `random` make cases, `guard` has memory
-//! between pages that cannot be read or written.
+//! - `suite` makes calls and compares them with what they must come to.
+//! - `model` says by a plain search over contacts what a table must hold and answer.
+//! - `rule`, `check` and `calls` say it from the text of document 01, for tables that no adds built; `contents` is what both
+//!   ways of saying it have in common.
+//! - `sheet` says what the printing program writes.
+//! - `words` is the layout of words; `cases` and `random` make cases; `compare` compares words; `guard` is memory between
+//!   pages that cannot be read or written.
 
 pub mod calls;
 pub mod cases;

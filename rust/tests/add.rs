@@ -5,11 +5,7 @@ use herd::testing::cases;
 use herd::testing::compare::same_words;
 use herd::testing::model::{self, Contacts};
 use herd::testing::random::Random;
-use herd::testing::suite::call::Call;
-use herd::testing::suite::draws;
-use herd::testing::suite::lent::Lent;
-use herd::testing::suite::reply::{Export, Reply};
-use herd::testing::suite::Suite;
+use herd::testing::suite::{draws, Call, Export, Lent, Reply, Suite};
 use herd::testing::words::{self, Contact, Opening};
 use herd::{Added, Opened};
 
@@ -31,7 +27,7 @@ impl Office {
     /// Makes the add on the table as the last one left it, and compares.
     #[track_caller]
     fn add(&mut self, u: u32, v: u32, t: u32) -> Reply {
-        let reply = self.suite.compare(&self.lent, &Call::Add { u, v, t });
+        let reply = self.suite.compare(&self.lent, &Call::Add(u, v, t));
         if matches!(reply, Reply::New(_)) {
             let mut contacts: Contacts = self.lent.held.iter().copied().collect();
             contacts.insert(Contact::new(u, v, t));

@@ -3,22 +3,20 @@
 use herd::testing::cases;
 use herd::testing::model::{self, Contacts};
 use herd::testing::random::Random;
-use herd::testing::suite::call::Call;
-use herd::testing::suite::lent::Lent;
-use herd::testing::suite::reply::{Export, Reply};
-use herd::testing::suite::{draws, Suite};
+use herd::testing::suite::{draws, Call, Export, Lent, Reply, Suite};
 use herd::testing::words::{self, Cells, Interval, Opening};
 
 /// The refusals on a good table.
 const ON_GOOD_TABLES: [u32; 5] = [7, 8, 9, 10, 15];
 
-/// The calls that ask for a window or a tick.
-const QUESTIONS: [Export; 7] = [
+/// The refusals of opening and of reading a log.
+const ANEW: [u32; 8] = [1, 2, 3, 4, 11, 12, 13, 14];
+
+/// The calls that ask for a pair, with a window or a tick.
+const ON_PAIRS: [Export; 5] = [
     Export::Reach,
     Export::Earliest,
     Export::Latest,
-    Export::Connected,
-    Export::Reached,
     Export::Chain,
     Export::Claimed,
 ];
@@ -44,7 +42,8 @@ fn chains_up_to(suite: &Suite, longest: u32, times: u32) {
     }
 }
 
-/// Makes the calls whose windows and ticks lie about some of the table's intervals, about so many, and compares.
+/// Makes calls whose windows and ticks lie about the table's intervals, and compares: reach, earliest and latest for each
+/// interval where there are two animals and for about 400 in other tables that are not large, every call for about so many.
 fn compare_about(
     suite: &mut Suite,
     random: &mut Random,
@@ -52,12 +51,15 @@ fn compare_about(
     cells: &Cells,
     intervals: usize,
 ) {
+    let large = lent.words.len() > 10_000;
     let (n, end) = (lent.opening.animals, lent.opening.last_arrival());
     let rows: usize = cells.iter().map(Vec::len).sum();
     for (pair, cell) in cells.iter().enumerate() {
         let (u, v) = (pair as u32 / n, pair as u32 % n);
         for interval in cell {
-            if random.below(rows) >= intervals {
+            let all = random.below(rows) < intervals;
+            let some = n == 2 || !large && random.below(rows) < 400;
+            if !all && !some {
                 continue;
             }
             let (d, a) = (interval.departure, interval.arrival);
@@ -74,21 +76,16 @@ fn compare_about(
                 (a, end),
                 (1, end),
             ] {
-                suite.compare_pair(random, lent, (u, v), (first, last));
-                let set = draws::set(random);
-                suite.compare(
-                    lent,
-                    &Call::Reached {
-                        u,
-                        first,
-                        last,
-                        set,
-                    },
-                );
+                suite.compare(lent, &Call::Reach(u, v, first, last));
+                if all {
+                    suite.compare_pair(random, lent, (u, v), (first, last));
+                    let set = draws::set(random);
+                    suite.compare(lent, &Call::Reached(u, first, last, set));
+                }
             }
             for tick in [d - 1, d, d + 1, a - 1, a, a + 1] {
-                suite.compare(lent, &Call::Earliest { u, v, first: tick });
-                suite.compare(lent, &Call::Latest { u, v, last: tick });
+                suite.compare(lent, &Call::Earliest(u, v, tick));
+                suite.compare(lent, &Call::Latest(u, v, tick));
             }
         }
     }
@@ -105,11 +102,8 @@ fn drawn_calls_on_tables_that_adds_built() {
         slow += u32::from(lent.opening.carry > lent.opening.ticks);
         joined += u32::from(has_joined(lent.opening, &closure(&lent)));
     }
-    suite.at_least(
-        500,
-        &Export::ALL,
-        &[1, 2, 3, 4, 7, 8, 9, 10, 11, 12, 13, 14, 15],
-    );
+    suite.at_least(500, &Export::ALL, &ON_GOOD_TABLES);
+    suite.at_least(500, &Export::ALL, &ANEW);
     assert!(slow > 100 && joined > 500, "{slow} {joined}");
 }
 
@@ -135,12 +129,13 @@ fn drawn_calls_on_tables_that_no_adds_built() {
 fn every_call_on_tables_that_adds_built() {
     let mut random = Random::new(103);
     let mut suite = Suite::default();
-    for _ in 0..500 {
+    for _ in 0..800 {
         let lent = draws::built(&mut random);
         suite.compare_every(&mut random, &lent, 4);
     }
     suite.at_least(150, &Export::ON_OPEN_TABLES, &ON_GOOD_TABLES);
-    suite.at_least(1_000, &QUESTIONS, &ON_GOOD_TABLES);
+    suite.at_least(1_000, &ON_PAIRS, &ON_GOOD_TABLES);
+    suite.at_least(1_000, &[Export::Connected, Export::Reached], &[7, 9]);
     chains_up_to(&suite, 3, 1_000);
 }
 
@@ -148,12 +143,13 @@ fn every_call_on_tables_that_adds_built() {
 fn every_call_on_tables_that_no_adds_built() {
     let mut random = Random::new(104);
     let mut suite = Suite::default();
-    for _ in 0..500 {
+    for _ in 0..800 {
         let lent = draws::stored(&mut random);
         suite.compare_every(&mut random, &lent, 4);
     }
     suite.at_least(150, &Export::ON_OPEN_TABLES, &ON_GOOD_TABLES);
-    suite.at_least(1_000, &QUESTIONS, &ON_GOOD_TABLES);
+    suite.at_least(1_000, &ON_PAIRS, &ON_GOOD_TABLES);
+    suite.at_least(1_000, &[Export::Connected, Export::Reached], &[7, 9]);
     chains_up_to(&suite, 3, 300);
 }
 
@@ -197,22 +193,19 @@ fn one_animal_is_connected_and_reaches_none() {
         suite.compare_every(&mut random, &lent, 1);
         suite.compare_drawn(&mut random, &lent, &Export::ALL, 200);
     }
-    for export in [Export::Connected, Export::Reached] {
-        let other = [
-            Reply::Yes,
-            Reply::Animals(0),
-            Reply::Refused(7),
-            Reply::Refused(9),
-        ];
-        assert_eq!(suite.times(export, |reply| !other.contains(&reply)), 0);
-        assert!(suite.times(export, |reply| reply == other[0] || reply == other[1]) > 500);
+    for (export, answer) in [
+        (Export::Connected, Reply::Yes),
+        (Export::Reached, Reply::Animals(0)),
+    ] {
+        let is_answer = |reply| reply == answer;
+        let is_other = |reply| !is_answer(reply) && !matches!(reply, Reply::Refused(7 | 9));
+        assert_eq!(suite.times(export, is_other), 0, "{export:?}");
+        assert!(suite.times(export, is_answer) > 500, "{export:?}");
     }
-    for export in QUESTIONS.into_iter().chain([Export::Add]) {
-        if export != Export::Connected && export != Export::Reached {
-            let refused = |reply| reply == Reply::Refused(7) || reply == Reply::Refused(8);
-            assert_eq!(suite.times(export, |reply| !refused(reply)), 0);
-            assert!(suite.times(export, refused) > 500, "{export:?}");
-        }
+    for export in ON_PAIRS.into_iter().chain([Export::Add]) {
+        let is_refused = |reply| matches!(reply, Reply::Refused(7 | 8));
+        assert_eq!(suite.times(export, |reply| !is_refused(reply)), 0);
+        assert!(suite.times(export, is_refused) > 500, "{export:?}");
     }
 }
 
@@ -242,15 +235,9 @@ fn calls_about_the_intervals_of_wide_tables_that_adds_built() {
         compare_about(&mut suite, &mut random, &lent, &closure(&lent), intervals);
         suite.compare_drawn(&mut random, &lent, &Export::ON_OPEN_TABLES, drawn);
     }
+    suite.at_least(40, &ON_PAIRS, &ON_GOOD_TABLES);
     let others = [Export::WriteLog, Export::Add, Export::Reached];
     suite.at_least(20, &others, &ON_GOOD_TABLES);
-    let asked = [
-        Export::Reach,
-        Export::Earliest,
-        Export::Latest,
-        Export::Chain,
-    ];
-    suite.at_least(40, &asked, &ON_GOOD_TABLES);
     chains_up_to(&suite, 6, 20);
 }
 
@@ -272,29 +259,18 @@ fn calls_about_the_rows_of_long_cells_that_no_adds_built() {
         (256, 3, 1),
     ] {
         let opening = Opening::new(animals, ticks, carry);
-        for _ in 0..6 {
+        for _ in 0..2 {
             let cells = cases::cells(&mut random, opening);
             let lent = Lent::stored(opening, &cells);
             let few = lent.words.len() > 50_000;
-            let (intervals, drawn) = if few { (3, 10) } else { (60, 40) };
+            let (intervals, drawn) = if few { (3, 20) } else { (60, 100) };
             compare_about(&mut suite, &mut random, &lent, &cells, intervals);
             suite.compare_drawn(&mut random, &lent, &Export::ON_OPEN_TABLES, drawn);
         }
     }
-    let others = [
-        Export::WriteLog,
-        Export::Add,
-        Export::Reached,
-        Export::Claimed,
-    ];
+    suite.at_least(40, &ON_PAIRS, &ON_GOOD_TABLES);
+    let others = [Export::WriteLog, Export::Add, Export::Reached];
     suite.at_least(40, &others, &ON_GOOD_TABLES);
-    let asked = [
-        Export::Reach,
-        Export::Earliest,
-        Export::Latest,
-        Export::Chain,
-    ];
-    suite.at_least(40, &asked, &ON_GOOD_TABLES);
 }
 
 #[test]
@@ -314,29 +290,21 @@ fn every_window_and_tick_of_every_cell_length() {
             let lent = Lent::stored(opening, &cells);
             for first in 1..=end {
                 for last in first..=end {
-                    let (u, v, set) = (0, 1, Vec::new());
-                    suite.compare(&lent, &Call::Reach { u, v, first, last });
+                    suite.compare(&lent, &Call::Reach(0, 1, first, last));
                     if random.once_in(4) {
-                        suite.compare(&lent, &Call::Connected { first, last });
-                        suite.compare(
-                            &lent,
-                            &Call::Reached {
-                                u,
-                                first,
-                                last,
-                                set,
-                            },
-                        );
+                        suite.compare_pair(&mut random, &lent, (0, 1), (first, last));
+                        suite.compare(&lent, &Call::Connected(first, last));
+                        let set = draws::set(&mut random);
+                        suite.compare(&lent, &Call::Reached(0, first, last, set));
                     }
                 }
-                let (u, v) = (0, 1);
-                suite.compare(&lent, &Call::Earliest { u, v, first });
-                suite.compare(&lent, &Call::Latest { u, v, last: first });
+                suite.compare(&lent, &Call::Earliest(0, 1, first));
+                suite.compare(&lent, &Call::Latest(0, 1, first));
             }
         }
     }
-    suite.at_least(5_000, &[Export::Reach, Export::Connected], &[]);
-    suite.at_least(5_000, &[Export::Earliest, Export::Latest], &[]);
+    suite.at_least(5_000, &ON_PAIRS, &[]);
+    suite.at_least(5_000, &[Export::Connected, Export::Reached], &[]);
 }
 
 /// Numbers near these, their neighbours and what they are in other widths, and far ones.
@@ -388,19 +356,19 @@ fn numbers_at_their_edges() {
             for &v in &asked_of {
                 let rarely = match (every, u < animals && v < animals) {
                     (true, true) => 1,
-                    (true, false) => 8,
+                    (true, false) => 3,
                     (false, true) => 20,
                     (false, false) => 2_000,
                 };
                 for t in edges(&[ticks]) {
                     if random.once_in(rarely) {
-                        suite.compare(&lent, &Call::Add { u, v, t });
+                        suite.compare(&lent, &Call::Add(u, v, t));
                     }
                 }
                 for &first in &tick_edges {
                     if random.once_in(rarely) {
-                        suite.compare(&lent, &Call::Earliest { u, v, first });
-                        suite.compare(&lent, &Call::Latest { u, v, last: first });
+                        suite.compare(&lent, &Call::Earliest(u, v, first));
+                        suite.compare(&lent, &Call::Latest(u, v, first));
                     }
                     for &last in &tick_edges {
                         if random.once_in(rarely) {
@@ -413,29 +381,16 @@ fn numbers_at_their_edges() {
                 for &last in &tick_edges {
                     if every || random.once_in(50) {
                         let set = draws::set(&mut random);
-                        suite.compare(
-                            &lent,
-                            &Call::Reached {
-                                u,
-                                first,
-                                last,
-                                set,
-                            },
-                        );
-                        suite.compare(&lent, &Call::Connected { first, last });
+                        suite.compare(&lent, &Call::Reached(u, first, last, set));
+                        suite.compare(&lent, &Call::Connected(first, last));
                     }
                 }
             }
         }
     }
-    let asked = [Export::Add, Export::Reach, Export::Chain];
-    suite.at_least(20, &asked, &[7, 8, 9, 10]);
-    suite.at_least(40, &[Export::Earliest, Export::Latest], &[7, 8, 9]);
-    suite.at_least(
-        40,
-        &[Export::Connected, Export::Reached, Export::Claimed],
-        &[7, 8, 9],
-    );
+    suite.at_least(40, &ON_PAIRS, &ON_GOOD_TABLES);
+    suite.at_least(40, &[Export::Connected, Export::Reached], &[7, 9]);
+    suite.at_least(20, &[Export::Add], &ON_GOOD_TABLES);
 }
 
 #[test]
@@ -504,22 +459,14 @@ fn refusals_come_in_order() {
         for room in 0..25 {
             let short = (room < 22).then_some(15);
             let buffer = random.words(room);
-            ask(&[short], Call::WriteLog { buffer });
+            ask(&[short], Call::WriteLog(buffer));
         }
         for ((first, last), window) in windows {
-            ask(&[window], Call::Connected { first, last });
+            ask(&[window], Call::Connected(first, last));
             for (u, animal) in animals {
                 for room in 0..10 {
                     let set = random.words(room);
-                    ask(
-                        &[animal, window],
-                        Call::Reached {
-                            u,
-                            first,
-                            last,
-                            set,
-                        },
-                    );
+                    ask(&[animal, window], Call::Reached(u, first, last, set));
                 }
             }
         }
@@ -527,41 +474,31 @@ fn refusals_come_in_order() {
             for (v, met) in animals {
                 let pair = left.or(met).or((u == v).then_some(8));
                 for (t, tick) in ticks {
-                    ask(&[pair, tick], Call::Add { u, v, t });
+                    ask(&[pair, tick], Call::Add(u, v, t));
                 }
                 for (tick, moment) in moments {
-                    ask(&[pair, moment], Call::Earliest { u, v, first: tick });
-                    ask(&[pair, moment], Call::Latest { u, v, last: tick });
+                    ask(&[pair, moment], Call::Earliest(u, v, tick));
+                    ask(&[pair, moment], Call::Latest(u, v, tick));
                 }
                 for ((first, last), window) in windows {
-                    ask(&[pair, window], Call::Reach { u, v, first, last });
+                    ask(&[pair, window], Call::Reach(u, v, first, last));
                     for room in 0..5 {
                         let short = (room < 2).then_some(10);
                         let buffer = random.words(room);
-                        let call = Call::Chain {
-                            u,
-                            v,
-                            first,
-                            last,
-                            buffer,
-                        };
+                        let call = Call::Chain(u, v, first, last, buffer);
                         ask(&[pair, window, short], call);
                         let chain = random.words(room);
-                        let call = Call::Claimed {
-                            u,
-                            v,
-                            first,
-                            last,
-                            chain,
-                        };
+                        let call = Call::Claimed(u, v, first, last, chain);
                         ask(&[pair, window], call);
                     }
                 }
             }
         }
     }
-    let asked = [Export::Add, Export::Reach, Export::Chain, Export::WriteLog];
-    suite.at_least(3, &asked, &[5, 6, 7, 8, 9, 10, 15]);
-    let asked = [Export::Earliest, Export::Latest, Export::Reached];
-    suite.at_least(3, &asked, &[5, 6, 7, 8, 9]);
+    for export in Export::ON_OPEN_TABLES {
+        for &number in export.refusals() {
+            let met = suite.times(export, |reply| reply == Reply::Refused(number));
+            assert!(met >= 6, "{export:?} {number}: {met}");
+        }
+    }
 }

@@ -5,25 +5,15 @@ use herd::testing::cases;
 use herd::testing::contents::Contents;
 use herd::testing::random::Random;
 use herd::testing::rule::Stored;
-use herd::testing::suite::call::Call;
-use herd::testing::suite::draws;
-use herd::testing::suite::lent::Lent;
-use herd::testing::suite::reply::{Export, Reply};
-use herd::testing::suite::Suite;
+use herd::testing::suite::{draws, Call, Export, Lent, Reply, Suite};
 use herd::testing::words::{self, Contact, Interval, Opening};
 
 /// The chain of a pair in a window, with words of no meaning in a buffer of this length.
 fn chain(random: &mut Random, (u, v): (u32, u32), (first, last): (u32, u32), room: usize) -> Call {
-    Call::Chain {
-        u,
-        v,
-        first,
-        last,
-        buffer: random.words(room),
-    }
+    Call::Chain(u, v, first, last, random.words(room))
 }
 
-/// The chain that is known of a table, as words.
+/// The contacts of the chain that is known of a table.
 fn told(known: &Known, (u, v): (u32, u32), window: Interval) -> Option<Vec<Contact>> {
     let contents = known.contents().expect("a well-formed table");
     contents.chain(u, v, window)
@@ -72,13 +62,7 @@ fn a_chain_of_255_contacts() {
         let call = chain(&mut random, (255, 0), (1, 256), room);
         suite.require(&lent, &call, reply);
     }
-    let claimed = Call::Claimed {
-        u: 255,
-        v: 0,
-        first: 1,
-        last: 256,
-        chain: words::contact_words(&path),
-    };
+    let claimed = Call::Claimed(255, 0, 1, 256, words::contact_words(&path));
     suite.require(&lent, &claimed, Reply::Yes);
 }
 
@@ -202,13 +186,7 @@ fn planted_chains_among_more_animals() {
             let last = opening.last_arrival() - random.between(0, 2);
             let first = random.between(1, 3);
             let buffer = draws::buffer(&mut random, animals as usize - 1);
-            let call = Call::Chain {
-                u,
-                v,
-                first,
-                last,
-                buffer,
-            };
+            let call = Call::Chain(u, v, first, last, buffer);
             suite.compare(&lent, &call);
             note_stuck(&stored, (u, v), Interval::new(first, last), &mut stuck);
         }

@@ -2,11 +2,7 @@
 
 use herd::testing::cases;
 use herd::testing::random::Random;
-use herd::testing::suite::call::Call;
-use herd::testing::suite::draws;
-use herd::testing::suite::lent::Lent;
-use herd::testing::suite::reply::{Export, Reply};
-use herd::testing::suite::Suite;
+use herd::testing::suite::{draws, Call, Export, Lent, Reply, Suite};
 use herd::testing::words::{self, Contact, Interval, Opening};
 use std::collections::{BTreeMap, BTreeSet};
 
@@ -45,13 +41,7 @@ impl<'a> Claim<'a> {
 
     /// Claims the words for the pair and the window.
     fn call(&self, (u, v): (u32, u32), window: Interval, chain: Vec<u32>) -> Call {
-        Call::Claimed {
-            u,
-            v,
-            first: window.departure,
-            last: window.arrival,
-            chain,
-        }
+        Call::Claimed(u, v, window.departure, window.arrival, chain)
     }
 
     /// A place in the chain.
@@ -269,13 +259,7 @@ fn chains_told_are_claimed_with_yes() {
         let told = herd::chain(&lent.words, u, v, first, last, &mut buffer);
         if let herd::Chain::Contacts(number) = told {
             let chain = buffer[..number as usize].to_vec();
-            let call = Call::Claimed {
-                u,
-                v,
-                first,
-                last,
-                chain,
-            };
+            let call = Call::Claimed(u, v, first, last, chain);
             suite.require(&lent, &call, Reply::Yes);
             contacts += number;
         }
@@ -291,26 +275,14 @@ fn stored_intervals_that_no_contacts_make_are_no_chain() {
     cells[opening.pair(0, 2)].push(Interval::new(1, 4));
     let lent = Lent::stored(opening, &cells);
     let (u, v, first, last) = (0, 2, 1, 7);
-    suite.require(&lent, &Call::Reach { u, v, first, last }, Reply::Yes);
+    suite.require(&lent, &Call::Reach(u, v, first, last), Reply::Yes);
     for tick in 1..=6 {
         let chain = vec![words::contact_word(Contact::new(0, 2, tick))];
-        let call = Call::Claimed {
-            u,
-            v,
-            first,
-            last,
-            chain,
-        };
+        let call = Call::Claimed(u, v, first, last, chain);
         suite.require(&lent, &call, Reply::No);
     }
     let interval = words::interval_word(Interval::new(1, 4));
     let chain = vec![interval];
-    let call = Call::Claimed {
-        u,
-        v,
-        first,
-        last,
-        chain,
-    };
+    let call = Call::Claimed(u, v, first, last, chain);
     suite.require(&lent, &call, Reply::No);
 }

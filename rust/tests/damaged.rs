@@ -2,9 +2,7 @@
 
 use herd::testing::cases;
 use herd::testing::random::Random;
-use herd::testing::suite::lent::Lent;
-use herd::testing::suite::reply::{Export, Reply};
-use herd::testing::suite::{draws, Suite};
+use herd::testing::suite::{draws, Export, Lent, Reply, Suite};
 use herd::testing::words::{self, Cells, Interval, Opening};
 use std::collections::BTreeMap;
 

@@ -3,10 +3,7 @@
 use herd::testing::compare::same_words;
 use herd::testing::model;
 use herd::testing::random::Random;
-use herd::testing::suite::call::Call;
-use herd::testing::suite::lent::Lent;
-use herd::testing::suite::reply::{Export, Reply};
-use herd::testing::suite::Suite;
+use herd::testing::suite::{Call, Export, Lent, Reply, Suite};
 use herd::testing::words::{self, Contact, Interval, Opening};
 use herd::{Added, Chain, Opened, Reached, Read, Written};
 
@@ -99,56 +96,37 @@ fn words_of_the_session() {
 
 #[test]
 fn marked_and_unmarked_answers_of_the_session() {
-    let reach = |u, v, first, last| Call::Reach { u, v, first, last };
-    let earliest = |u, v, first| Call::Earliest { u, v, first };
-    let latest = |u, v, last| Call::Latest { u, v, last };
-    let reached = |u, first, last| Call::Reached {
-        u,
-        first,
-        last,
-        set: vec![7; 8],
-    };
-    let chain = |u, v, first, last, room| Call::Chain {
-        u,
-        v,
-        first,
-        last,
-        buffer: vec![7; room],
-    };
-    let claimed = |u, v, first, last, chain: &[u32]| Call::Claimed {
-        u,
-        v,
-        first,
-        last,
-        chain: chain.to_vec(),
-    };
-    let p6 = [LOG[2], LOG[3]];
+    let reached = |u, first, last| Call::Reached(u, first, last, vec![7; 8]);
+    let chain = |u, v, first, last, room| Call::Chain(u, v, first, last, vec![7; room]);
+    let claimed =
+        |u, v, first, last, chain: &[u32]| Call::Claimed(u, v, first, last, chain.to_vec());
+    let (p6, other) = ([LOG[2], LOG[3]], [LOG[1], LOG[3]]);
     let asked = [
-        ("P1", reach(0, 3, 1, 5), Reply::Yes),
-        ("P1", reach(0, 3, 2, 5), Reply::Yes),
-        ("P2", reach(0, 3, 1, 4), Reply::No),
-        ("P2", reach(0, 3, 3, 7), Reply::No),
-        ("P3", reach(3, 0, 1, 7), Reply::No),
-        ("P4", earliest(0, 3, 2), Reply::At(5)),
-        ("P4", earliest(0, 3, 3), Reply::Nothing),
-        ("P5", latest(0, 3, 5), Reply::At(2)),
-        ("P5", latest(0, 3, 4), Reply::Nothing),
+        ("P1", Call::Reach(0, 3, 1, 5), Reply::Yes),
+        ("P1", Call::Reach(0, 3, 2, 5), Reply::Yes),
+        ("P2", Call::Reach(0, 3, 1, 4), Reply::No),
+        ("P2", Call::Reach(0, 3, 3, 7), Reply::No),
+        ("P3", Call::Reach(3, 0, 1, 7), Reply::No),
+        ("P4", Call::Earliest(0, 3, 2), Reply::At(5)),
+        ("P4", Call::Earliest(0, 3, 3), Reply::Nothing),
+        ("P5", Call::Latest(0, 3, 5), Reply::At(2)),
+        ("P5", Call::Latest(0, 3, 4), Reply::Nothing),
         ("P6", chain(0, 3, 1, 7, 3), Reply::Chain(2)),
-        ("whole window", reach(0, 3, 1, 7), Reply::Yes),
-        ("one tick more", reach(0, 3, 1, 8), Reply::Refused(9)),
-        ("from tick 0", reach(0, 3, 0, 5), Reply::Refused(9)),
-        ("last first", reach(0, 3, 5, 2), Reply::Refused(9)),
-        ("one animal", reach(3, 3, 1, 5), Reply::Refused(8)),
-        ("animal 4", reach(0, 4, 1, 5), Reply::Refused(7)),
-        ("from 1", earliest(0, 3, 1), Reply::At(5)),
-        ("from 1", earliest(0, 1, 1), Reply::At(2)),
-        ("last tick", earliest(0, 3, 7), Reply::Nothing),
-        ("one tick more", earliest(0, 3, 8), Reply::Refused(9)),
-        ("tick 0", earliest(0, 3, 0), Reply::Refused(9)),
-        ("by the last tick", latest(0, 1, 7), Reply::At(2)),
-        ("by tick 2", latest(0, 1, 2), Reply::At(1)),
-        ("one tick more", latest(0, 3, 8), Reply::Refused(9)),
-        ("tick 0", latest(0, 3, 0), Reply::Refused(9)),
+        ("whole window", Call::Reach(0, 3, 1, 7), Reply::Yes),
+        ("one tick more", Call::Reach(0, 3, 1, 8), Reply::Refused(9)),
+        ("from tick 0", Call::Reach(0, 3, 0, 5), Reply::Refused(9)),
+        ("last first", Call::Reach(0, 3, 5, 2), Reply::Refused(9)),
+        ("one animal", Call::Reach(3, 3, 1, 5), Reply::Refused(8)),
+        ("animal 4", Call::Reach(0, 4, 1, 5), Reply::Refused(7)),
+        ("from 1", Call::Earliest(0, 3, 1), Reply::At(5)),
+        ("from 1", Call::Earliest(0, 1, 1), Reply::At(2)),
+        ("last tick", Call::Earliest(0, 3, 7), Reply::Nothing),
+        ("one tick more", Call::Earliest(0, 3, 8), Reply::Refused(9)),
+        ("tick 0", Call::Earliest(0, 3, 0), Reply::Refused(9)),
+        ("by the last tick", Call::Latest(0, 1, 7), Reply::At(2)),
+        ("by tick 2", Call::Latest(0, 1, 2), Reply::At(1)),
+        ("one tick more", Call::Latest(0, 3, 8), Reply::Refused(9)),
+        ("tick 0", Call::Latest(0, 3, 0), Reply::Refused(9)),
         ("all", reached(0, 1, 7), Reply::Animals(2)),
         ("from 3 on", reached(0, 3, 7), Reply::Animals(0)),
         ("by 4", reached(0, 1, 4), Reply::Animals(1)),
@@ -166,11 +144,7 @@ fn marked_and_unmarked_answers_of_the_session() {
         ("tightest", claimed(0, 3, 2, 5, &p6), Reply::Yes),
         ("later", claimed(0, 3, 3, 7, &p6), Reply::No),
         ("shorter", claimed(0, 3, 1, 4, &p6), Reply::No),
-        (
-            "earlier way",
-            claimed(0, 3, 1, 7, &[LOG[1], LOG[3]]),
-            Reply::Yes,
-        ),
+        ("other way", claimed(0, 3, 1, 7, &other), Reply::Yes),
         ("to 1", claimed(0, 1, 1, 7, &p6), Reply::No),
         ("half", claimed(0, 3, 1, 7, &p6[..1]), Reply::No),
         ("nothing", claimed(0, 3, 1, 7, &[]), Reply::No),
@@ -184,13 +158,13 @@ fn marked_and_unmarked_answers_of_the_session() {
             suite.require(&lent, call, *reply);
         }
         for (first, last) in [(1, 7), (2, 5), (7, 7)] {
-            suite.require(&lent, &Call::Connected { first, last }, Reply::No);
+            suite.require(&lent, &Call::Connected(first, last), Reply::No);
         }
     }
     let lent = Lent::built(&mut random, Opening::new(4, 6, 1), &session());
-    suite.require(&lent, &Call::Add { u: 2, v: 0, t: 6 }, Reply::New(1));
-    suite.require(&lent, &Call::Add { u: 2, v: 0, t: 7 }, Reply::Refused(9));
-    suite.require(&lent, &Call::Add { u: 0, v: 1, t: 1 }, Reply::Known(0));
+    suite.require(&lent, &Call::Add(2, 0, 6), Reply::New(1));
+    suite.require(&lent, &Call::Add(2, 0, 7), Reply::Refused(9));
+    suite.require(&lent, &Call::Add(0, 1, 1), Reply::Known(0));
 }
 
 #[test]
@@ -201,6 +175,8 @@ fn longer_carry_times() {
         let opening = Opening::new(4, 6, carry);
         for order in orders(&session()) {
             let lent = Lent::built(&mut random, opening, &order);
+            let log = words::log(opening, order.clone());
+            suite.require(&lent, &Call::ReadLog(log), Reply::Read(3));
             let start = opening.cell_start(0, 3);
             let cell = words::interval_word(Interval::new(departure, arrival));
             assert_eq!(lent.words[start..start + 3], [0xC000_0001, cell, 0]);
@@ -222,29 +198,17 @@ fn longer_carry_times() {
                     true => (Reply::Yes, Reply::Chain(2)),
                     false => (Reply::No, Reply::NoJourney),
                 };
-                suite.require(&lent, &Call::Reach { u, v, first, last }, yes);
+                suite.require(&lent, &Call::Reach(u, v, first, last), yes);
                 let chain = words::contact_words(&way);
-                let claimed = Call::Claimed {
-                    u,
-                    v,
-                    first,
-                    last,
-                    chain,
-                };
+                let claimed = Call::Claimed(u, v, first, last, chain);
                 suite.require(&lent, &claimed, yes);
                 let buffer = random.words(4);
-                let call = Call::Chain {
-                    u,
-                    v,
-                    first,
-                    last,
-                    buffer,
-                };
+                let call = Call::Chain(u, v, first, last, buffer);
                 suite.require(&lent, &call, number);
             }
             let (first, last) = (departure, arrival);
-            suite.require(&lent, &Call::Earliest { u, v, first }, Reply::At(last));
-            suite.require(&lent, &Call::Latest { u, v, last }, Reply::At(first));
+            suite.require(&lent, &Call::Earliest(u, v, first), Reply::At(last));
+            suite.require(&lent, &Call::Latest(u, v, last), Reply::At(first));
         }
     }
 }
@@ -274,6 +238,8 @@ fn five_animals() {
     assert_eq!(orders.len(), 120);
     for order in orders {
         let lent = Lent::built(&mut random, opening, &order);
+        let log = words::log(opening, order.clone());
+        suite.require(&lent, &Call::ReadLog(log), Reply::Read(5));
         for ((u, v), interval) in [((0, 3), (1, 3)), ((0, 4), (1, 7))] {
             let start = opening.cell_start(u, v);
             let cell = words::interval_word(Interval::new(interval.0, interval.1));
@@ -298,18 +264,9 @@ fn five_animals() {
         }
         suite.compare_every(&mut random, &lent, 12);
     }
-    let asked = [
-        Export::Reach,
-        Export::Earliest,
-        Export::Latest,
-        Export::Chain,
-    ];
-    suite.at_least(100, &asked, &[7, 8, 9, 10]);
-    let asked = [
-        Export::Add,
-        Export::WriteLog,
-        Export::Reached,
-        Export::Claimed,
-    ];
-    suite.at_least(20, &asked, &[7, 8, 9, 15]);
+    let all_but_connected = Export::ON_OPEN_TABLES.iter().copied();
+    let all_but_connected: Vec<Export> = all_but_connected
+        .filter(|&export| export != Export::Connected)
+        .collect();
+    suite.at_least(20, &all_but_connected, &[7, 8, 9, 10, 15]);
 }

@@ -4,10 +4,7 @@ use herd::testing::cases;
 use herd::testing::compare::same_words;
 use herd::testing::guard::{Guarded, Memory, Place};
 use herd::testing::random::Random;
-use herd::testing::suite::call::Call;
-use herd::testing::suite::lent::Lent;
-use herd::testing::suite::reply::{Export, Reply};
-use herd::testing::suite::{draws, Suite};
+use herd::testing::suite::{draws, Call, Export, Lent, Reply, Suite};
 use herd::testing::words::{self, Opening};
 use herd::{Added, Answer, Chain, Opened, Reached, Read, Tick, Written};
 use std::env;
@@ -110,7 +107,7 @@ fn full_cells_stay_inside() {
             let full = Lent::stored(opening, &cells);
             for contact in cases::legal_contacts(opening) {
                 let (u, v, t) = (contact.from, contact.to, contact.tick);
-                let reply = suite.compare_at_guards(&full, &Call::Add { u, v, t });
+                let reply = suite.compare_at_guards(&full, &Call::Add(u, v, t));
                 assert_eq!(reply, Reply::Known(0), "{opening:?} {contact:?}");
             }
             let mut contacts = cases::legal_contacts(opening);
@@ -118,7 +115,7 @@ fn full_cells_stay_inside() {
             for _ in 0..20 {
                 random.shuffle(&mut contacts);
                 let log = words::log(opening, contacts.clone());
-                let reply = suite.compare_at_guards(&full, &Call::ReadLog { log });
+                let reply = suite.compare_at_guards(&full, &Call::ReadLog(log));
                 assert_eq!(reply, number, "{opening:?}");
                 contacts.push(random.one_of(&contacts));
             }
@@ -211,7 +208,7 @@ fn logs_of_no_word_one_and_two_stay_inside() {
     ] {
         for table in [&[][..], &[7], &[first, end]] {
             let lent = Lent::words(opening, table.to_vec());
-            let reply = suite.compare_at_guards(&lent, &Call::ReadLog { log: log.to_vec() });
+            let reply = suite.compare_at_guards(&lent, &Call::ReadLog(log.to_vec()));
             assert_eq!(reply, Reply::Refused(number), "{log:08X?}");
         }
     }
@@ -225,7 +222,7 @@ fn logs_of_no_word_one_and_two_stay_inside() {
         (0, Reply::Refused(14)),
     ] {
         let log = vec![first, last];
-        let reply = suite.compare_at_guards(&lent, &Call::ReadLog { log });
+        let reply = suite.compare_at_guards(&lent, &Call::ReadLog(log));
         assert_eq!(reply, expected, "{last:08X}");
     }
 }
@@ -242,15 +239,11 @@ fn openings_stay_inside() {
                 let right = opening.table_words();
                 for length in [right, right - 1, right + 1, 0] {
                     let lent = Lent::words(opening, random.words(length));
-                    let call = Call::Open {
-                        animals,
-                        ticks,
-                        carry,
-                    };
+                    let call = Call::Open(animals, ticks, carry);
                     suite.compare_at_guards(&lent, &call);
                     let contacts = cases::log_contacts(&mut random, opening, 30);
                     let log = words::log(opening, contacts);
-                    suite.compare_at_guards(&lent, &Call::ReadLog { log });
+                    suite.compare_at_guards(&lent, &Call::ReadLog(log));
                 }
             }
         }

@@ -6,8 +6,7 @@ use herd::testing::contents::Contents;
 use herd::testing::model::{self, Contacts, Journeys};
 use herd::testing::random::Random;
 use herd::testing::rule::Stored;
-use herd::testing::suite::lent::Lent;
-use herd::testing::suite::reply::Export;
+use herd::testing::suite::{Export, Lent};
 use herd::testing::words::{self, Contact, Interval, Opening};
 use herd::{Added, Read};
 

@@ -1,11 +1,7 @@
 //! Opening: the limits, the length and the order of the refusals.
 
 use herd::testing::random::Random;
-use herd::testing::suite::call::Call;
-use herd::testing::suite::draws;
-use herd::testing::suite::lent::Lent;
-use herd::testing::suite::reply::{Export, Reply};
-use herd::testing::suite::Suite;
+use herd::testing::suite::{draws, Call, Export, Lent, Reply, Suite};
 use herd::testing::words::Opening;
 use herd::Opened;
 
@@ -46,11 +42,7 @@ fn every_combination_at_the_limits() {
             for length in lengths(animals, ticks) {
                 let lent = Lent::words(any, filling[..length].to_vec());
                 for carry in CARRIES {
-                    let call = Call::Open {
-                        animals,
-                        ticks,
-                        carry,
-                    };
+                    let call = Call::Open(animals, ticks, carry);
                     suite.compare(&lent, &call);
                 }
             }
@@ -90,11 +82,11 @@ fn opening_again_empties_a_table() {
     let mut suite = Suite::default();
     for _ in 0..400 {
         let lent = draws::stored(&mut random);
-        let call = Call::Open {
-            animals: lent.opening.animals,
-            ticks: lent.opening.ticks,
-            carry: random.between(1, 256),
-        };
+        let call = Call::Open(
+            lent.opening.animals,
+            lent.opening.ticks,
+            random.between(1, 256),
+        );
         suite.require(&lent, &call, Reply::Opened);
     }
 }

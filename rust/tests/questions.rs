@@ -2,10 +2,7 @@
 
 use herd::testing::cases;
 use herd::testing::random::Random;
-use herd::testing::suite::call::Call;
-use herd::testing::suite::lent::Lent;
-use herd::testing::suite::reply::Reply;
-use herd::testing::suite::Suite;
+use herd::testing::suite::{Call, Lent, Reply, Suite};
 use herd::testing::words::{self, Contact, Interval, Opening};
 
 /// Yes where it is so, else no.
@@ -35,20 +32,15 @@ fn windows_and_ticks_at_the_edges_of_full_tables() {
         let lent = Lent::stored(opening, &cases::full_cells(opening));
         let (u, v) = (1, 0);
         let mut ask = |first, last, reply: Reply| {
-            suite.require(&lent, &Call::Reach { u, v, first, last }, reply);
-            suite.require(&lent, &Call::Connected { first, last }, reply);
+            suite.require(&lent, &Call::Reach(u, v, first, last), reply);
+            suite.require(&lent, &Call::Connected(first, last), reply);
             let animals = match reply {
                 Reply::Yes => Reply::Animals(1),
                 Reply::No => Reply::Animals(0),
                 refused => refused,
             };
             let set = vec![5; 8];
-            let call = Call::Reached {
-                u,
-                first,
-                last,
-                set,
-            };
+            let call = Call::Reached(u, first, last, set);
             suite.require(&lent, &call, animals);
         };
         for tick in 1..=end {
@@ -66,14 +58,14 @@ fn windows_and_ticks_at_the_edges_of_full_tables() {
         ask(end + 1, end + 1, Reply::Refused(9));
         for tick in 1..=end {
             let arrival = told(tick <= ticks, tick + carry);
-            suite.require(&lent, &Call::Earliest { u, v, first: tick }, arrival);
+            suite.require(&lent, &Call::Earliest(u, v, tick), arrival);
             let departure = told(tick > carry, tick.max(carry) - carry);
-            suite.require(&lent, &Call::Latest { u, v, last: tick }, departure);
+            suite.require(&lent, &Call::Latest(u, v, tick), departure);
         }
         for tick in [0, end + 1, end + 2, u32::MAX] {
             let refused = Reply::Refused(9);
-            suite.require(&lent, &Call::Earliest { u, v, first: tick }, refused);
-            suite.require(&lent, &Call::Latest { u, v, last: tick }, refused);
+            suite.require(&lent, &Call::Earliest(u, v, tick), refused);
+            suite.require(&lent, &Call::Latest(u, v, tick), refused);
         }
     }
 }
@@ -90,10 +82,10 @@ fn earliest_and_latest_go_by_the_row_next_to_the_tick() {
     for tick in 1..=42 {
         let next = rows.iter().find(|(departure, _)| *departure >= tick);
         let arrival = next.map_or(Reply::Nothing, |&(_, arrival)| Reply::At(arrival));
-        suite.require(&lent, &Call::Earliest { u, v, first: tick }, arrival);
+        suite.require(&lent, &Call::Earliest(u, v, tick), arrival);
         let before = rows.iter().rev().find(|(_, arrival)| *arrival <= tick);
         let departure = before.map_or(Reply::Nothing, |&(departure, _)| Reply::At(departure));
-        suite.require(&lent, &Call::Latest { u, v, last: tick }, departure);
+        suite.require(&lent, &Call::Latest(u, v, tick), departure);
     }
 }
 
@@ -104,10 +96,7 @@ fn connected_misses_no_pair() {
     for (animals, carry) in [(2, 1), (3, 256), (8, 2), (33, 1)] {
         let opening = Opening::new(animals, 1, carry);
         let full = cases::full_cells(opening);
-        let window = Call::Connected {
-            first: 1,
-            last: opening.last_arrival(),
-        };
+        let window = Call::Connected(1, opening.last_arrival());
         suite.require(&Lent::stored(opening, &full), &window, Reply::Yes);
         for pair in 0..opening.pairs() {
             let is_one = pair % (animals as usize + 1) == 0;
@@ -134,7 +123,7 @@ fn a_ring_is_connected_in_time() {
         for length in [1, animals - 2, animals - 1, animals, ticks] {
             let (first, last) = (2, (2 + length).min(opening.last_arrival()));
             let reply = answered(length + 1 >= animals);
-            suite.require(&lent, &Call::Connected { first, last }, reply);
+            suite.require(&lent, &Call::Connected(first, last), reply);
         }
     }
 }
@@ -167,12 +156,7 @@ fn sets_of_many_animals() {
                 let reached = herd::reached(&lent.words, u, first, last, &mut lent_set);
                 assert_eq!(reached, herd::Reached::Animals(met.len() as u32));
                 assert_eq!(lent_set, after, "{opening:?} {u} {room}");
-                let call = Call::Reached {
-                    u,
-                    first,
-                    last,
-                    set,
-                };
+                let call = Call::Reached(u, first, last, set);
                 suite.require(&lent, &call, Reply::Animals(met.len() as u32));
             }
         }
@@ -190,26 +174,14 @@ fn stored_intervals_stand_for_the_journeys() {
     cells[opening.pair(1, 2)].push(Interval::new(4, 5));
     let lent = Lent::stored(opening, &cells);
     let (u, v, first, last) = (0, 2, 1, 9);
-    suite.require(&lent, &Call::Reach { u, v, first, last }, Reply::Yes);
-    suite.require(&lent, &Call::Earliest { u, v, first }, Reply::At(7));
-    suite.require(&lent, &Call::Latest { u, v, last: 6 }, Reply::Nothing);
+    suite.require(&lent, &Call::Reach(u, v, first, last), Reply::Yes);
+    suite.require(&lent, &Call::Earliest(u, v, first), Reply::At(7));
+    suite.require(&lent, &Call::Latest(u, v, 6), Reply::Nothing);
     let buffer = random.words(2);
-    let call = Call::Chain {
-        u,
-        v,
-        first,
-        last,
-        buffer,
-    };
+    let call = Call::Chain(u, v, first, last, buffer);
     suite.require(&lent, &call, Reply::NoJourney);
     let way = [Contact::new(0, 1, 2), Contact::new(1, 2, 4)];
     let chain = words::contact_words(&way);
-    let call = Call::Claimed {
-        u,
-        v,
-        first,
-        last,
-        chain,
-    };
+    let call = Call::Claimed(u, v, first, last, chain);
     suite.require(&lent, &call, Reply::Yes);
 }

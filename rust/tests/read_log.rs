@@ -4,10 +4,7 @@ use herd::testing::cases;
 use herd::testing::compare::{same_table, same_words};
 use herd::testing::model::{self, Contacts};
 use herd::testing::random::Random;
-use herd::testing::suite::call::Call;
-use herd::testing::suite::lent::Lent;
-use herd::testing::suite::reply::{Export, Reply};
-use herd::testing::suite::Suite;
+use herd::testing::suite::{Call, Export, Lent, Reply, Suite};
 use herd::testing::words::{self, Cells, Contact, Interval, Opening};
 use herd::{read_log, write_log, Added, Opened, Read, Written};
 use std::collections::BTreeMap;
@@ -19,7 +16,7 @@ const REFUSALS: [u32; 5] = [4, 11, 12, 13, 14];
 #[track_caller]
 fn compare(suite: &mut Suite, log: &[u32], before: Vec<u32>) -> Reply {
     let lent = Lent::words(Opening::new(1, 1, 1), before);
-    suite.compare(&lent, &Call::ReadLog { log: log.to_vec() })
+    suite.compare(&lent, &Call::ReadLog(log.to_vec()))
 }
 
 /// The set of the listed contacts.

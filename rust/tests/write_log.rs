@@ -3,11 +3,7 @@
 use herd::testing::cases;
 use herd::testing::model::Contacts;
 use herd::testing::random::Random;
-use herd::testing::suite::call::Call;
-use herd::testing::suite::draws;
-use herd::testing::suite::lent::Lent;
-use herd::testing::suite::reply::{Export, Reply};
-use herd::testing::suite::Suite;
+use herd::testing::suite::{draws, Call, Export, Lent, Reply, Suite};
 use herd::testing::words::{Contact, Opening};
 use herd::{write_log, Written};
 
@@ -30,7 +26,7 @@ fn compare(suite: &mut Suite, random: &mut Random, lent: &Lent) {
         } else {
             Reply::Written(contacts as u32 + 2)
         };
-        suite.require(lent, &Call::WriteLog { buffer }, reply);
+        suite.require(lent, &Call::WriteLog(buffer), reply);
     }
 }
 

@@ -13,9 +13,8 @@ pub type Contacts = BTreeSet<Contact>;
 
 /// The minimal journey intervals of every ordered pair of different animals, by departure.
 pub fn minimal_intervals(opening: Opening, contacts: &Contacts) -> Cells {
-    let earliest = |animal: &[bool]| animal.iter().position(|&seen| seen);
-    let first = |seen: &[bool]| earliest(seen).into_iter().collect();
-    let cells = intervals(opening, contacts, first);
+    let earliest = |times: &[bool]| times.iter().position(|&seen| seen).into_iter().collect();
+    let cells = intervals(opening, contacts, earliest);
     cells.iter().map(|journeys| minimal(journeys)).collect()
 }
 
@@ -61,7 +60,7 @@ impl Journeys {
 
     /// The intervals of all journeys from `u` to another animal `v`, whether another one lies inside them or not.
     fn between(&self, u: u32, v: u32) -> &[Interval] {
-        let every = |animal: &[bool]| (0..animal.len()).filter(|&time| animal[time]).collect();
+        let every = |times: &[bool]| (0..times.len()).filter(|&time| times[time]).collect();
         let find = || intervals(self.opening, &self.contacts, every);
         &self.all.get_or_init(find)[self.opening.pair(u, v)]
     }
@@ -135,8 +134,8 @@ impl Contents for Journeys {
     }
 }
 
-/// For every ordered pair of different animals the intervals of those journeys that `arrivals` takes, by departure: of
-/// those that leave with one departure it is told which times an animal is reached at, and gives times.
+/// Intervals of the journeys of every ordered pair of different animals, by departure. At which times an animal is reached
+/// with one departure, `arrivals` is told, and it says which of these times are taken.
 fn intervals(
     opening: Opening,
     contacts: &Contacts,
@@ -152,9 +151,9 @@ fn intervals(
         let departures: BTreeSet<u32> = leaving[x as usize].iter().map(|c| c.tick).collect();
         for departure in departures {
             let seen = search(opening, &leaving, x, departure);
-            for (y, animal) in (0..).zip(seen.chunks(times)).filter(|&(y, _)| y != x) {
+            for (y, reached) in (0..).zip(seen.chunks(times)).filter(|&(y, _)| y != x) {
                 let cell: &mut Vec<Interval> = &mut cells[opening.pair(x, y)];
-                let taken = arrivals(animal).into_iter();
+                let taken = arrivals(reached).into_iter();
                 cell.extend(taken.map(|arrival| Interval::new(departure, arrival as u32)));
             }
         }

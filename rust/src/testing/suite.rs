@@ -1,21 +1,23 @@
 //! One suite for all calls: a call on a table, and what it must come to.
 //!
-//! A [`Call`](call::Call) is made through the safe wrapper on a [`Lent`](lent::Lent) table, and its answer and every lent
-//! word afterwards, those lent for reading too, are compared with what must be: by the plain search over contacts where the
-//! table was built from contacts, by the text of document 01 where it was not.
+//! A [`Call`] is made through the safe wrapper on a [`Lent`] table, and its answer and every lent word afterwards, those
+//! lent for reading too, are compared with what must be: by the plain search over contacts where the table was built from
+//! contacts, by the text of document 01 where it was not.
 
-pub mod call;
+mod call;
 pub mod draws;
-pub mod lent;
-pub mod reply;
+mod lent;
+mod reply;
 
+pub use call::{Call, Outcome};
+pub use lent::Lent;
+pub use reply::{Export, Reply};
+
+use crate::testing::check;
 use crate::testing::compare::same_words;
 use crate::testing::guard::{Place, PLACES};
 use crate::testing::random::Random;
 use crate::testing::words::{self, Interval};
-use call::{Call, Outcome};
-use lent::Lent;
-use reply::{Export, Reply};
 use std::collections::BTreeMap;
 use std::thread;
 
@@ -42,7 +44,7 @@ impl Suite {
     }
 
     /// Makes the call with each lent slice at either guard, those lent for reading where they cannot be written, and
-    /// compares.
+    /// compares. Where no word is lent beside the table, that slice touches the guard behind it alone.
     #[track_caller]
     pub fn compare_at_guards(&mut self, lent: &Lent, call: &Call) -> Reply {
         let expected = call.expected(&lent.words, &lent.known);
@@ -77,46 +79,43 @@ impl Suite {
     /// Makes every legal call on a small table, and one in so many of those with a number one beyond, and compares.
     #[track_caller]
     pub fn compare_every(&mut self, random: &mut Random, lent: &Lent, rarely: usize) {
-        let (n, ticks) = (lent.opening.animals, lent.opening.ticks);
-        let end = lent.opening.last_arrival();
+        let opening = lent.opening;
+        let beyond = opening.last_arrival() + 1;
+        let windows: Vec<(u32, u32)> = (0..=beyond)
+            .flat_map(|first| (0..=beyond).map(move |last| (first, last)))
+            .collect();
+        let is_window = |first, last| check::window(opening, first, last).is_ok();
         let asks = |random: &mut Random, legal: bool| legal || random.once_in(rarely);
-        for u in 0..=n {
-            for v in 0..=n {
-                let pair = u != v && u < n && v < n;
-                for t in 0..=ticks + 1 {
-                    if asks(random, pair && (1..=ticks).contains(&t)) {
-                        self.compare(lent, &Call::Add { u, v, t });
+        for u in 0..=opening.animals {
+            for v in 0..=opening.animals {
+                let pair = check::animals(opening, u, v).is_ok();
+                for t in 0..=opening.ticks + 1 {
+                    if asks(random, check::contact(opening, u, v, t).is_ok()) {
+                        self.compare(lent, &Call::Add(u, v, t));
                     }
                 }
-                for tick in 0..=end + 1 {
-                    if asks(random, pair && (1..=end).contains(&tick)) {
-                        self.compare(lent, &Call::Earliest { u, v, first: tick });
-                        self.compare(lent, &Call::Latest { u, v, last: tick });
+                for tick in 0..=beyond {
+                    if asks(random, pair && check::tick(opening, tick).is_ok()) {
+                        self.compare(lent, &Call::Earliest(u, v, tick));
+                        self.compare(lent, &Call::Latest(u, v, tick));
                     }
                 }
-                for (first, last, legal) in windows(end) {
-                    if asks(random, pair && legal) {
+                for &(first, last) in &windows {
+                    if asks(random, pair && is_window(first, last)) {
                         self.compare_pair(random, lent, (u, v), (first, last));
                     }
                 }
             }
-            for (first, last, legal) in windows(end) {
-                if asks(random, u < n && legal) {
+            for &(first, last) in &windows {
+                let animal = check::animal(opening, u).is_ok();
+                if asks(random, animal && is_window(first, last)) {
                     let set = draws::set(random);
-                    self.compare(
-                        lent,
-                        &Call::Reached {
-                            u,
-                            first,
-                            last,
-                            set,
-                        },
-                    );
+                    self.compare(lent, &Call::Reached(u, first, last, set));
                 }
             }
         }
-        for (first, last, _) in windows(end) {
-            self.compare(lent, &Call::Connected { first, last });
+        for &(first, last) in &windows {
+            self.compare(lent, &Call::Connected(first, last));
         }
         self.compare_drawn(random, lent, &[Export::WriteLog], 4);
     }
@@ -130,24 +129,12 @@ impl Suite {
         (u, v): (u32, u32),
         (first, last): (u32, u32),
     ) {
-        self.compare(lent, &Call::Reach { u, v, first, last });
+        self.compare(lent, &Call::Reach(u, v, first, last));
         let buffer = draws::buffer(random, lent.opening.animals as usize - 1);
-        let call = Call::Chain {
-            u,
-            v,
-            first,
-            last,
-            buffer,
-        };
+        let call = Call::Chain(u, v, first, last, buffer);
         self.compare(lent, &call);
         let chain = claim(random, lent, (u, v));
-        let call = Call::Claimed {
-            u,
-            v,
-            first,
-            last,
-            chain,
-        };
+        let call = Call::Claimed(u, v, first, last, chain);
         self.compare(lent, &call);
     }
 
@@ -183,27 +170,16 @@ impl Suite {
 /// With `--nocapture` a test tells how many calls it compared.
 impl Drop for Suite {
     fn drop(&mut self) {
-        let times = |export: &Export| (*export, self.times(*export, |_| true));
-        let told: Vec<_> = Export::ALL
-            .iter()
-            .map(times)
-            .filter(|(_, n)| *n > 0)
-            .collect();
+        let times = |export| (export, self.times(export, |_| true));
+        let made = Export::ALL.map(times).into_iter();
+        let told: Vec<_> = made.filter(|(_, times)| *times > 0).collect();
         println!("{}: {told:?}", thread::current().name().unwrap_or("a test"));
     }
 }
 
-/// The first and last ticks from 0 to one beyond the end, and whether they make a window.
-fn windows(end: u32) -> impl Iterator<Item = (u32, u32, bool)> {
-    let from = move |first| (0..=end + 1).map(move |last| (first, last));
-    let legal = move |first, last| 1 <= first && first <= last && last <= end;
-    let ticks = (0..=end + 1).flat_map(from);
-    ticks.map(move |(first, last)| (first, last, legal(first, last)))
-}
-
 /// A claimed chain for a pair: mostly the chain of the widest window, where there is one.
 fn claim(random: &mut Random, lent: &Lent, (u, v): (u32, u32)) -> Vec<u32> {
-    let pair = u != v && u.max(v) < lent.opening.animals;
+    let pair = check::animals(lent.opening, u, v).is_ok();
     let widest = Interval::new(1, lent.opening.last_arrival());
     let contents = lent.known.contents().ok();
     let told = contents.filter(|_| pair && !random.once_in(4));

@@ -4,72 +4,41 @@ use super::reply::{Export, Reply};
 use crate::testing::calls::{self, Known};
 use crate::testing::guard::{Guarded, Memory, Place};
 
-/// A call on a table: its numbers, and the words that it is lent beside the table.
+/// A call on a table: its numbers and the words that it is lent beside the table, in the order of its parameters.
 #[derive(Clone, Debug)]
 pub enum Call {
-    Open {
-        animals: u32,
-        ticks: u32,
-        carry: u32,
-    },
-    ReadLog {
-        log: Vec<u32>,
-    },
-    Add {
-        u: u32,
-        v: u32,
-        t: u32,
-    },
-    WriteLog {
-        buffer: Vec<u32>,
-    },
-    Reach {
-        u: u32,
-        v: u32,
-        first: u32,
-        last: u32,
-    },
-    Earliest {
-        u: u32,
-        v: u32,
-        first: u32,
-    },
-    Latest {
-        u: u32,
-        v: u32,
-        last: u32,
-    },
-    Connected {
-        first: u32,
-        last: u32,
-    },
-    Reached {
-        u: u32,
-        first: u32,
-        last: u32,
-        set: Vec<u32>,
-    },
-    Chain {
-        u: u32,
-        v: u32,
-        first: u32,
-        last: u32,
-        buffer: Vec<u32>,
-    },
-    Claimed {
-        u: u32,
-        v: u32,
-        first: u32,
-        last: u32,
-        chain: Vec<u32>,
-    },
+    /// Animals, ticks, carry time.
+    Open(u32, u32, u32),
+    /// The log.
+    ReadLog(Vec<u32>),
+    /// The animal left, the animal met, the tick.
+    Add(u32, u32, u32),
+    /// The buffer.
+    WriteLog(Vec<u32>),
+    /// From, to, first, last.
+    Reach(u32, u32, u32, u32),
+    /// From, to, first.
+    Earliest(u32, u32, u32),
+    /// From, to, last.
+    Latest(u32, u32, u32),
+    /// First, last.
+    Connected(u32, u32),
+    /// From, first, last, and words for the set.
+    Reached(u32, u32, u32, Vec<u32>),
+    /// From, to, first, last, and the buffer.
+    Chain(u32, u32, u32, u32, Vec<u32>),
+    /// From, to, first, last, and the words claimed.
+    Claimed(u32, u32, u32, u32, Vec<u32>),
 }
 
-/// What a call comes to: its answer and every lent word afterwards, those of the table and those lent beside it.
+/// What a call comes to: its answer and every lent word afterwards.
 #[derive(Clone, Debug, PartialEq, Eq)]
 pub struct Outcome {
+    /// The answer.
     pub reply: Reply,
+    /// The words of the table.
     pub table: Vec<u32>,
+    /// The words lent beside the table, if any.
     pub beside: Vec<u32>,
 }
 
@@ -88,17 +57,17 @@ impl Call {
     /// Which call it is.
     pub fn export(&self) -> Export {
         match self {
-            Call::Open { .. } => Export::Open,
-            Call::ReadLog { .. } => Export::ReadLog,
-            Call::Add { .. } => Export::Add,
-            Call::WriteLog { .. } => Export::WriteLog,
-            Call::Reach { .. } => Export::Reach,
-            Call::Earliest { .. } => Export::Earliest,
-            Call::Latest { .. } => Export::Latest,
-            Call::Connected { .. } => Export::Connected,
-            Call::Reached { .. } => Export::Reached,
-            Call::Chain { .. } => Export::Chain,
-            Call::Claimed { .. } => Export::Claimed,
+            Call::Open(..) => Export::Open,
+            Call::ReadLog(..) => Export::ReadLog,
+            Call::Add(..) => Export::Add,
+            Call::WriteLog(..) => Export::WriteLog,
+            Call::Reach(..) => Export::Reach,
+            Call::Earliest(..) => Export::Earliest,
+            Call::Latest(..) => Export::Latest,
+            Call::Connected(..) => Export::Connected,
+            Call::Reached(..) => Export::Reached,
+            Call::Chain(..) => Export::Chain,
+            Call::Claimed(..) => Export::Claimed,
         }
     }
 
@@ -117,72 +86,51 @@ impl Call {
     fn made_in<M: Memory>(&self, table: &[u32], lend: impl Fn(usize, &[u32]) -> M) -> Outcome {
         let mut table = lend(0, table);
         match *self {
-            Call::Open {
-                animals,
-                ticks,
-                carry,
-            } => {
+            Call::Open(animals, ticks, carry) => {
                 let answer = crate::open(&mut table, animals, ticks, carry);
                 Outcome::new(answer, &table, &[])
             }
-            Call::ReadLog { ref log } => {
+            Call::ReadLog(ref log) => {
                 let log = lend(1, log).freeze();
                 let answer = crate::read_log(&log, &mut table);
                 Outcome::new(answer, &table, &log)
             }
-            Call::Add { u, v, t } => {
+            Call::Add(u, v, t) => {
                 let answer = crate::add(&mut table, u, v, t);
                 Outcome::new(answer, &table, &[])
             }
-            Call::WriteLog { ref buffer } => {
+            Call::WriteLog(ref buffer) => {
                 let (table, mut buffer) = (table.freeze(), lend(1, buffer));
                 let answer = crate::write_log(&table, &mut buffer);
                 Outcome::new(answer, &table, &buffer)
             }
-            Call::Reach { u, v, first, last } => {
+            Call::Reach(u, v, first, last) => {
                 let table = table.freeze();
                 Outcome::new(crate::reach(&table, u, v, first, last), &table, &[])
             }
-            Call::Earliest { u, v, first } => {
+            Call::Earliest(u, v, first) => {
                 let table = table.freeze();
                 Outcome::new(crate::earliest(&table, u, v, first), &table, &[])
             }
-            Call::Latest { u, v, last } => {
+            Call::Latest(u, v, last) => {
                 let table = table.freeze();
                 Outcome::new(crate::latest(&table, u, v, last), &table, &[])
             }
-            Call::Connected { first, last } => {
+            Call::Connected(first, last) => {
                 let table = table.freeze();
                 Outcome::new(crate::connected(&table, first, last), &table, &[])
             }
-            Call::Reached {
-                u,
-                first,
-                last,
-                ref set,
-            } => {
+            Call::Reached(u, first, last, ref set) => {
                 let (table, mut set) = (table.freeze(), lend(1, set));
                 let answer = crate::reached(&table, u, first, last, &mut set);
                 Outcome::new(answer, &table, &set)
             }
-            Call::Chain {
-                u,
-                v,
-                first,
-                last,
-                ref buffer,
-            } => {
+            Call::Chain(u, v, first, last, ref buffer) => {
                 let (table, mut buffer) = (table.freeze(), lend(1, buffer));
                 let answer = crate::chain(&table, u, v, first, last, &mut buffer);
                 Outcome::new(answer, &table, &buffer)
             }
-            Call::Claimed {
-                u,
-                v,
-                first,
-                last,
-                ref chain,
-            } => {
+            Call::Claimed(u, v, first, last, ref chain) => {
                 let (table, chain) = (table.freeze(), lend(1, chain).freeze());
                 let answer = crate::claimed(&table, u, v, first, last, &chain);
                 Outcome::new(answer, &table, &chain)
@@ -193,60 +141,37 @@ impl Call {
     /// What it must come to on a table of which this is known.
     pub fn expected(&self, table: &[u32], known: &Known) -> Outcome {
         match *self {
-            Call::Open {
-                animals,
-                ticks,
-                carry,
-            } => {
+            Call::Open(animals, ticks, carry) => {
                 let (answer, after) = calls::open(table, animals, ticks, carry);
                 Outcome::new(answer, &after, &[])
             }
-            Call::ReadLog { ref log } => {
+            Call::ReadLog(ref log) => {
                 let (answer, after) = calls::read_log(log, table);
                 Outcome::new(answer, &after, log)
             }
-            Call::Add { u, v, t } => {
+            Call::Add(u, v, t) => {
                 let (answer, after) = known.add(table, u, v, t);
                 Outcome::new(answer, &after, &[])
             }
-            Call::WriteLog { ref buffer } => {
+            Call::WriteLog(ref buffer) => {
                 let (answer, after) = known.write_log(buffer);
                 Outcome::new(answer, table, &after)
             }
-            Call::Reach { u, v, first, last } => {
+            Call::Reach(u, v, first, last) => {
                 Outcome::new(known.reach(u, v, first, last), table, &[])
             }
-            Call::Earliest { u, v, first } => Outcome::new(known.earliest(u, v, first), table, &[]),
-            Call::Latest { u, v, last } => Outcome::new(known.latest(u, v, last), table, &[]),
-            Call::Connected { first, last } => {
-                Outcome::new(known.connected(first, last), table, &[])
-            }
-            Call::Reached {
-                u,
-                first,
-                last,
-                ref set,
-            } => {
+            Call::Earliest(u, v, first) => Outcome::new(known.earliest(u, v, first), table, &[]),
+            Call::Latest(u, v, last) => Outcome::new(known.latest(u, v, last), table, &[]),
+            Call::Connected(first, last) => Outcome::new(known.connected(first, last), table, &[]),
+            Call::Reached(u, first, last, ref set) => {
                 let (answer, after) = known.reached(u, first, last, set);
                 Outcome::new(answer, table, &after)
             }
-            Call::Chain {
-                u,
-                v,
-                first,
-                last,
-                ref buffer,
-            } => {
+            Call::Chain(u, v, first, last, ref buffer) => {
                 let (answer, after) = known.chain(u, v, first, last, buffer);
                 Outcome::new(answer, table, &after)
             }
-            Call::Claimed {
-                u,
-                v,
-                first,
-                last,
-                ref chain,
-            } => {
+            Call::Claimed(u, v, first, last, ref chain) => {
                 let answer = known.claimed(u, v, first, last, chain);
                 Outcome::new(answer, table, chain)
             }

@@ -18,34 +18,27 @@ impl Lent {
             Export::ReadLog => self.draw_read_log(random),
             Export::Add => {
                 let t = tick(random, opening.ticks);
-                Call::Add { u, v, t }
+                Call::Add(u, v, t)
             }
-            Export::WriteLog => Call::WriteLog {
-                buffer: buffer(random, self.held.len() + 2),
-            },
-            Export::Reach => Call::Reach { u, v, first, last },
+            Export::WriteLog => Call::WriteLog(buffer(random, self.held.len() + 2)),
+            Export::Reach => Call::Reach(u, v, first, last),
             Export::Earliest => {
                 let first = tick(random, opening.last_arrival());
-                Call::Earliest { u, v, first }
+                Call::Earliest(u, v, first)
             }
             Export::Latest => {
                 let last = tick(random, opening.last_arrival());
-                Call::Latest { u, v, last }
+                Call::Latest(u, v, last)
             }
-            Export::Connected => Call::Connected { first, last },
-            Export::Reached => Call::Reached {
-                u,
-                first,
-                last,
-                set: set(random),
-            },
-            Export::Chain => Call::Chain {
+            Export::Connected => Call::Connected(first, last),
+            Export::Reached => Call::Reached(u, first, last, set(random)),
+            Export::Chain => Call::Chain(
                 u,
                 v,
                 first,
                 last,
-                buffer: buffer(random, opening.animals as usize - 1),
-            },
+                buffer(random, opening.animals as usize - 1),
+            ),
             Export::Claimed => self.draw_claimed(random),
         }
     }
@@ -63,11 +56,7 @@ impl Lent {
             numbers[place] = numbers[place].wrapping_add(1);
         }
         let [animals, ticks, carry] = numbers;
-        Call::Open {
-            animals,
-            ticks,
-            carry,
-        }
+        Call::Open(animals, ticks, carry)
     }
 
     /// A log for a table of this length, mostly a good one.
@@ -77,7 +66,7 @@ impl Lent {
         if random.once_in(2) {
             log = cases::damaged_log(random, &log);
         }
-        Call::ReadLog { log }
+        Call::ReadLog(log)
     }
 
     /// A claimed chain: a journey of held contacts, or one that was damaged.
@@ -98,13 +87,7 @@ impl Lent {
         if random.once_in(2) {
             self.damage(random, &mut chain);
         }
-        Call::Claimed {
-            u,
-            v,
-            first,
-            last,
-            chain,
-        }
+        Call::Claimed(u, v, first, last, chain)
     }
 
     /// A journey of held contacts, at most so many, which may pass an animal twice; no contact where none is held.

@@ -9,8 +9,11 @@ use crate::{Added, Opened};
 
 /// A table, its numbers, and what is known of it.
 pub struct Lent {
+    /// The table's numbers, to which calls are drawn; other words than an open table's may say others.
     pub opening: Opening,
+    /// The table's words.
     pub words: Vec<u32>,
+    /// What is known of them.
     pub known: Known,
     /// Contacts of which claimed chains are made, in log order.
     pub held: Vec<Contact>,

@@ -21,18 +21,31 @@ pub enum Export {
 /// An answer of any call.
 #[derive(Clone, Copy, Debug, PartialEq, Eq, PartialOrd, Ord)]
 pub enum Reply {
+    /// The refusal's number.
     Refused(u32),
+    /// The table is open.
     Opened,
+    /// So many different contacts.
     Read(u32),
+    /// So many cells changed.
     New(u32),
+    /// So many cells changed.
     Known(u32),
+    /// So many words.
     Written(u32),
+    /// It is so.
     Yes,
+    /// It is not so.
     No,
+    /// The tick.
     At(u32),
+    /// There is no such tick.
     Nothing,
+    /// So many animals.
     Animals(u32),
+    /// So many contacts.
     Chain(u32),
+    /// No journey is told.
     NoJourney,
 }
 
