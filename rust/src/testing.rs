@@ -4,7 +4,7 @@
 //! - `model` says by a plain search over contacts what a table must hold and answer.
 //! - `rule`, `check` and `calls` say it from the text of document 01, for tables that no adds built; `contents` is what both
 //!   ways of saying it have in common.
-//! - `sheet` says what the printing program writes.
+//! - `sheet` says what the printing program writes; `program` runs a proved program.
 //! - `words` is the layout of words; `cases` and `random` make cases; `compare` compares words; `guard` is memory between
 //!   pages that cannot be read or written.
 
@@ -15,6 +15,7 @@ pub mod compare;
 pub mod contents;
 pub mod guard;
 pub mod model;
+pub mod program;
 pub mod random;
 pub mod rule;
 pub mod sheet;

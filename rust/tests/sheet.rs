@@ -1,19 +1,20 @@
 //! The printing program, on the pairs of `sheets/` and on made inputs.
 
 use herd::testing::cases;
+use herd::testing::program::Program;
 use herd::testing::random::Random;
 use herd::testing::sheet::{self, MOST_ANIMALS, MOST_BYTES, MOST_TICKS};
 use herd::testing::words::{self, Opening};
 use std::collections::{BTreeMap, BTreeSet};
-use std::fs::{self, File};
-use std::io::{ErrorKind, Write};
+use std::fs;
 use std::path::{Path, PathBuf};
-use std::process::{Child, ChildStdin, Command, Stdio};
-use std::thread;
 use std::time::Duration;
 
 /// The printing program.
-const PROGRAM: &str = concat!(env!("CARGO_MANIFEST_DIR"), "/../target/bin/sheet");
+const PROGRAM: Program = Program {
+    name: "sheet",
+    reads: MOST_BYTES,
+};
 /// The folder of the pairs: NAME.log is the input, NAME.txt is the text that it must give.
 const SHEETS: &str = concat!(env!("CARGO_MANIFEST_DIR"), "/sheets");
 /// The number of the pairs.
@@ -62,58 +63,6 @@ fn read(path: &Path) -> Vec<u8> {
     fs::read(path).unwrap_or_else(|error| panic!("{}: {error}", path.display()))
 }
 
-/// Starts the program on this input.
-fn start(input: Stdio) -> Child {
-    let mut program = Command::new(PROGRAM);
-    program.stdin(input).stdout(Stdio::piped());
-    let started = program.stderr(Stdio::piped()).spawn();
-    started.unwrap_or_else(|error| {
-        panic!("the printing program {PROGRAM} does not start, build it first: {error}")
-    })
-}
-
-/// What the program has written when it ends, which must be with success.
-fn finish(program: Child) -> Vec<u8> {
-    let output = program.wait_with_output().expect("the program's output");
-    let complaint = String::from_utf8_lossy(&output.stderr);
-    assert!(output.status.success(), "{}: {complaint}", output.status);
-    output.stdout
-}
-
-/// What the program writes for a file.
-fn printed_for_file(path: &Path) -> Vec<u8> {
-    let file = File::open(path).unwrap_or_else(|error| panic!("{}: {error}", path.display()));
-    finish(start(Stdio::from(file)))
-}
-
-/// What the program writes for bytes that come through a pipe in pieces of this size, with a pause after each.
-fn printed_for_pieces(bytes: &[u8], size: usize, pause: Duration) -> Vec<u8> {
-    let mut program = start(Stdio::piped());
-    let pipe = program.stdin.take().expect("a pipe to the program");
-    thread::scope(|scope| {
-        scope.spawn(move || feed(pipe, bytes, size, pause));
-        finish(program)
-    })
-}
-
-/// Writes the bytes to the program, which may close its input where there are more than it takes.
-fn feed(mut pipe: ChildStdin, bytes: &[u8], size: usize, pause: Duration) {
-    for piece in bytes.chunks(size) {
-        match pipe.write_all(piece) {
-            Err(error) if error.kind() == ErrorKind::BrokenPipe && bytes.len() > MOST_BYTES => {
-                return;
-            }
-            written => written.expect("the program reads its whole input"),
-        }
-        thread::sleep(pause);
-    }
-}
-
-/// What the program writes for bytes that come through a pipe.
-fn printed(bytes: &[u8]) -> Vec<u8> {
-    printed_for_pieces(bytes, usize::MAX, Duration::ZERO)
-}
-
 /// Fails at the first line that differs.
 #[track_caller]
 fn same_text(found: &[u8], expected: &[u8], case: &str) {
@@ -134,7 +83,7 @@ fn same_text(found: &[u8], expected: &[u8], case: &str) {
 #[track_caller]
 fn compare(bytes: &[u8], case: &str, met: &mut Met) {
     let expected = sheet::text(bytes);
-    same_text(&printed(bytes), expected.as_bytes(), case);
+    same_text(&PROGRAM.written(bytes), expected.as_bytes(), case);
     met.note(&expected);
 }
 
@@ -162,7 +111,7 @@ impl Met {
 #[test]
 fn pairs_from_files() {
     for Pair { name, input, text } in pairs() {
-        same_text(&printed_for_file(&input), &text, &name);
+        same_text(&PROGRAM.written_for_file(&input), &text, &name);
     }
 }
 
@@ -171,7 +120,7 @@ fn pairs_through_pipes() {
     for Pair { name, input, text } in pairs() {
         let bytes = read(&input);
         for size in [usize::MAX, 4_096, 1_023, 7] {
-            let found = printed_for_pieces(&bytes, size, Duration::ZERO);
+            let found = PROGRAM.written_for_pieces(&bytes, size, Duration::ZERO);
             same_text(&found, &text, &name);
         }
     }
@@ -217,19 +166,19 @@ fn session_of_document_01() {
     let bytes = sheet::bytes(&words);
     let input = Path::new(SHEETS).join("session.log");
     assert_eq!(read(&input), bytes);
-    same_text(&printed_for_file(&input), text, "file");
-    same_text(&printed(&bytes), text, "pipe");
+    same_text(&PROGRAM.written_for_file(&input), text, "file");
+    same_text(&PROGRAM.written(&bytes), text, "pipe");
     for size in [1, 2, 3, 4, 5, 8, 19] {
         let pause = Duration::from_millis(4);
-        let found = printed_for_pieces(&bytes, size, pause);
+        let found = PROGRAM.written_for_pieces(&bytes, size, pause);
         same_text(&found, text, &format!("pieces of {size}"));
     }
 }
 
 #[test]
 fn no_input() {
-    same_text(&finish(start(Stdio::null())), b"refused 11\n", "no input");
-    same_text(&printed(&[]), b"refused 11\n", "an empty pipe");
+    same_text(&PROGRAM.written_for_nothing(), b"refused 11\n", "no input");
+    same_text(&PROGRAM.written(&[]), b"refused 11\n", "an empty pipe");
 }
 
 /// An opening within the program's limits, which often stand in it.
@@ -357,6 +306,6 @@ fn far_too_many_bytes() {
         let mut bytes = good.clone();
         bytes.resize(length, 0);
         let case = format!("{length} bytes");
-        same_text(&printed(&bytes), b"too large\n", &case);
+        same_text(&PROGRAM.written(&bytes), b"too large\n", &case);
     }
 }

@@ -1,9 +1,9 @@
 //! Random contacts, questions, tallies and damage, legal or not.
 
 use crate::session::{Question, Session, MOST_TABLE};
-use herd::cases;
-use herd::random::Random;
-use herd::words::Opening;
+use herd::testing::cases;
+use herd::testing::random::Random;
+use herd::testing::words::Opening;
 
 /// An opening whose table fits in the program's memory; now and then the largest.
 pub fn opening(random: &mut Random) -> Opening {

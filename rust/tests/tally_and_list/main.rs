@@ -6,10 +6,10 @@ mod met;
 mod program;
 mod session;
 
-use herd::cases;
-use herd::model::{self, Contacts};
-use herd::random::Random;
-use herd::words::{self, Contact, Opening};
+use herd::testing::cases;
+use herd::testing::model::{self, Contacts};
+use herd::testing::random::Random;
+use herd::testing::words::{self, Contact, Opening};
 use met::Kind::{Answer, Refusal};
 use met::Met;
 use session::{

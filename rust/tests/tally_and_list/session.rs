@@ -2,11 +2,10 @@
 
 use crate::met::Met;
 use crate::program;
-use herd::calls;
-use herd::check;
-use herd::ffi::reach::Reach as Answer;
-use herd::ffi::{Added, Opened};
-use herd::words::Opening;
+use herd::testing::calls;
+use herd::testing::check;
+use herd::testing::words::Opening;
+use herd::{Added, Answer, Opened};
 use std::fmt::Debug;
 
 /// The words of the program's memory.
