@@ -39,7 +39,7 @@ pub enum Written {
 }
 
 /// The answer of a question for yes or no: [`reach`](crate::reach), [`connected`](crate::connected) and
-/// [`claimed`](crate::claimed).
+/// [`claimed`](crate::claimed), which write no lent word.
 #[derive(Clone, Copy, Debug, PartialEq, Eq)]
 pub enum Answer {
     /// It is so.
@@ -50,7 +50,8 @@ pub enum Answer {
     Refused(u32),
 }
 
-/// The answer of a question for a tick: [`earliest`](crate::earliest) and [`latest`](crate::latest).
+/// The answer of a question for a tick: [`earliest`](crate::earliest) and [`latest`](crate::latest), which write no lent
+/// word.
 #[derive(Clone, Copy, Debug, PartialEq, Eq)]
 pub enum Tick {
     /// The tick asked for.

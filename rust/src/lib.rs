@@ -5,6 +5,21 @@
 //! [`reached`] and [`chain`] ask about the journeys of the contacts that were added, and [`claimed`] judges a chain that
 //! somebody claims. A call keeps nothing but the words lent to it, and reads and writes only these.
 //!
+//! A contact leaves one animal at a tick and arrives at another when the carry time is over. A journey is one contact or
+//! more, each starting where the last arrived, at or after that arrival. A window is a first and a last tick; a journey
+//! fits it when it departs at or after the first and arrives by the last. On a well-formed table that no adds built, the
+//! stored intervals stand for the journeys in every question but [`claimed`].
+//!
+//! # Words
+//!
+//! The words of a log and of a chain; the bits that are not named are 0.
+//!
+//! | word | bits 31–30 | bits 25–18 | bits 17–10 | bits 9–0 |
+//! |---|---|---|---|---|
+//! | opening | 2 | animals − 1 | carry time − 1 | ticks − 1 |
+//! | contact | 1 | the animal left | the animal met | tick − 1 |
+//! | end of a log | 3 | the contacts of the log, in bits 25–0 | | |
+//!
 //! # Refusals
 //!
 //! What a call cannot do it refuses with a number, and then every lent word is as before. Any words and any numbers may be

@@ -1,24 +1,24 @@
-//! Questions about windows and ticks. A journey fits a window when it departs at or after its first tick and arrives by
-//! its last.
+//! Questions about windows and ticks.
 
 use crate::exports::{herd_connected, herd_earliest, herd_latest, herd_reach, herd_reached};
 use crate::{Answer, Reached, Tick};
 
-/// Whether a journey from `u` to `v` departs at or after `first` and arrives by `last`.
+/// Whether a journey from `u` to `v` departs at or after `first` and arrives by `last`: yes when one does, no when none
+/// does.
 #[inline]
 pub fn reach(table: &[u32], u: u32, v: u32, first: u32, last: u32) -> Answer {
     // SAFETY: pointer and length are those of one lent slice, and the engine is proved to stay inside.
     Answer::of(unsafe { herd_reach(table.as_ptr(), table.len(), u, v, first, last) })
 }
 
-/// The earliest arrival of a journey from `u` to `v` that departs at or after `first`.
+/// The earliest arrival of a journey from `u` to `v` that departs at or after `first`, or nothing where none departs so.
 #[inline]
 pub fn earliest(table: &[u32], u: u32, v: u32, first: u32) -> Tick {
     // SAFETY: pointer and length are those of one lent slice, and the engine is proved to stay inside.
     Tick::of(unsafe { herd_earliest(table.as_ptr(), table.len(), u, v, first) })
 }
 
-/// The latest departure of a journey from `u` to `v` that arrives by `last`.
+/// The latest departure of a journey from `u` to `v` that arrives by `last`, or nothing where none arrives so.
 #[inline]
 pub fn latest(table: &[u32], u: u32, v: u32, last: u32) -> Tick {
     // SAFETY: pointer and length are those of one lent slice, and the engine is proved to stay inside.

@@ -91,10 +91,7 @@ fn every_contact_more_on_every_set_of_small_tables() {
         let opening = Opening::new(animals, ticks, carry);
         let legal = cases::legal_contacts(opening);
         let sets = 1usize << legal.len();
-        let set = |bits: usize| -> Contacts {
-            let members = legal.iter().enumerate().filter(|(i, _)| bits >> i & 1 == 1);
-            members.map(|(_, &contact)| contact).collect()
-        };
+        let set = |bits: usize| -> Contacts { cases::chosen(&legal, bits).into_iter().collect() };
         let fresh: Vec<Vec<u32>> = (0..sets)
             .map(|bits| model::fresh_table(opening, &set(bits)))
             .collect();

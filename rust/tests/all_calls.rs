@@ -4,7 +4,7 @@ use herd::testing::cases;
 use herd::testing::model::{self, Contacts};
 use herd::testing::random::Random;
 use herd::testing::suite::{draws, Call, Export, Lent, Reply, Suite};
-use herd::testing::words::{self, Cells, Interval, Opening};
+use herd::testing::words::{self, Cells, Opening};
 
 /// The refusals on a good table.
 const ON_GOOD_TABLES: [u32; 5] = [7, 8, 9, 10, 15];
@@ -20,12 +20,6 @@ const ON_PAIRS: [Export; 5] = [
     Export::Chain,
     Export::Claimed,
 ];
-
-/// Whether some stored interval is that of two contacts or more.
-fn has_joined(opening: Opening, cells: &Cells) -> bool {
-    let joined = |i: &Interval| i.arrival - i.departure > opening.carry;
-    cells.iter().flatten().any(joined)
-}
 
 /// The cells of the fresh table over the contacts that a table holds.
 fn closure(lent: &Lent) -> Cells {
@@ -100,7 +94,7 @@ fn drawn_calls_on_tables_that_adds_built() {
         let lent = draws::built(&mut random);
         suite.compare_drawn(&mut random, &lent, &Export::ALL, 12);
         slow += u32::from(lent.opening.carry > lent.opening.ticks);
-        joined += u32::from(has_joined(lent.opening, &closure(&lent)));
+        joined += u32::from(cases::has_joined(lent.opening, &closure(&lent)));
     }
     suite.at_least(500, &Export::ALL, &ON_GOOD_TABLES);
     suite.at_least(500, &Export::ALL, &ANEW);
@@ -172,8 +166,7 @@ fn every_call_on_every_set_of_small_tables() {
         let opening = Opening::new(animals, ticks, carry);
         let legal = cases::legal_contacts(opening);
         for bits in 0..1usize << legal.len() {
-            let members = legal.iter().enumerate().filter(|(i, _)| bits >> i & 1 == 1);
-            let mut listed: Vec<_> = members.map(|(_, &contact)| contact).collect();
+            let mut listed = cases::chosen(&legal, bits);
             random.shuffle(&mut listed);
             let lent = Lent::built(&mut random, opening, &listed);
             suite.compare_every(&mut random, &lent, 12);

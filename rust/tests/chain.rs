@@ -111,8 +111,7 @@ fn chains_that_stick() {
         ((3, 1), (5, 6)),
         ((1, 4), (8, 9)),
     ];
-    let way = [(0, 2, 1), (2, 3, 3), (3, 1, 5), (1, 4, 8)];
-    let way = way.map(|(u, v, t)| Contact::new(u, v, t)).to_vec();
+    let way = words::contacts([(0, 2, 1), (2, 3, 3), (3, 1, 5), (1, 4, 8)]).to_vec();
     let widest = Interval::new(1, 9);
     let mut stuck = [0; 8];
     let mut chains = 0;

@@ -65,11 +65,6 @@ impl Good {
     }
 }
 
-/// The word with another kind.
-fn other_kind(random: &mut Random, word: u32) -> u32 {
-    word ^ random.between(1, 3) << 30
-}
-
 /// A wrong word for a good table, at its place; none where the table has no place for it.
 type Damage = fn(&Good, &mut Random) -> Option<(usize, u32)>;
 
@@ -85,7 +80,7 @@ const REFUSED_5: [(&str, Damage); 5] = [
         Some((0, good.lent.words[0] | 1 << random.between(26, 29)))
     }),
     ("opening, another kind", |good, random| {
-        Some((0, other_kind(random, good.lent.words[0])))
+        Some((0, cases::other_kind(random, good.lent.words[0])))
     }),
     ("opening, one animal more", |good, _| {
         let o = good.opening;
@@ -124,7 +119,7 @@ const REFUSED_6: [(&str, Damage); 24] = [
     }),
     ("count, another kind", |good, random| {
         let start = good.cell(random, 0, 0)?;
-        Some((start, other_kind(random, good.lent.words[start])))
+        Some((start, cases::other_kind(random, good.lent.words[start])))
     }),
     ("count, zero", |good, random| {
         Some((good.cell(random, 0, 0)?, 0))
@@ -137,7 +132,7 @@ const REFUSED_6: [(&str, Damage); 24] = [
     ("row, another kind", |good, random| {
         let (start, row) = good.row(random, 0, 0)?;
         let place = start + 1 + row;
-        Some((place, other_kind(random, good.lent.words[place])))
+        Some((place, cases::other_kind(random, good.lent.words[place])))
     }),
     ("row, zero", |good, random| {
         let (start, row) = good.row(random, 0, 0)?;

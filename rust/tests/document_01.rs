@@ -1,10 +1,11 @@
 //! The session, the marked examples and the unmarked ones of document 01, in every loading order.
 
+use herd::testing::cases::orders;
 use herd::testing::compare::same_words;
 use herd::testing::model;
 use herd::testing::random::Random;
 use herd::testing::suite::{Call, Export, Lent, Reply, Suite};
-use herd::testing::words::{self, Contact, Interval, Opening};
+use herd::testing::words::{self, contacts, Contact, Interval, Opening};
 use herd::{Added, Chain, Opened, Reached, Read, Written};
 
 /// The session's log.
@@ -16,31 +17,9 @@ const LOG: [u32; 5] = [
     0xC000_0003,
 ];
 
-/// The contacts of these triples.
-fn contacts<const N: usize>(listed: [(u32, u32, u32); N]) -> [Contact; N] {
-    listed.map(|(u, v, t)| Contact::new(u, v, t))
-}
-
 /// The contacts of the session.
 fn session() -> [Contact; 3] {
     contacts([(0, 1, 1), (0, 1, 2), (1, 3, 4)])
-}
-
-/// Every order of the items.
-fn orders<T: Copy>(items: &[T]) -> Vec<Vec<T>> {
-    let mut orders = vec![Vec::new()];
-    for (number, &item) in items.iter().enumerate() {
-        let mut longer = Vec::new();
-        for order in &orders {
-            for place in 0..=number {
-                let mut one: Vec<T> = order.clone();
-                one.insert(place, item);
-                longer.push(one);
-            }
-        }
-        orders = longer;
-    }
-    orders
 }
 
 /// The words of the session's table.

@@ -3,7 +3,7 @@
 use herd::testing::calls::accepted;
 use herd::testing::compare::{same_table, same_words};
 use herd::testing::model::{self, Contacts};
-use herd::testing::words::{self, Cells, Contact, Interval, Opening};
+use herd::testing::words::{self, contacts, Cells, Contact, Interval, Opening};
 use herd::{Added, Answer, Chain, Opened, Reached, Read, Tick, Written};
 
 /// The largest opening.
@@ -12,11 +12,6 @@ const LARGEST: Opening = Opening {
     ticks: 1024,
     carry: 256,
 };
-
-/// The contacts of these triples.
-fn contacts<const N: usize>(listed: [(u32, u32, u32); N]) -> [Contact; N] {
-    listed.map(|(u, v, t)| Contact::new(u, v, t))
-}
 
 /// Compares the cells of some animals.
 fn same_cells(table: &[u32], cells: &Cells, animals: &[u32]) {

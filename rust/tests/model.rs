@@ -12,8 +12,7 @@ use herd::{Added, Read};
 
 /// The contacts of document 01's session.
 fn session() -> Contacts {
-    let listed = [(0, 1, 1), (0, 1, 2), (1, 3, 4)];
-    listed.map(|(u, v, t)| Contact::new(u, v, t)).into()
+    words::contacts([(0, 1, 1), (0, 1, 2), (1, 3, 4)]).into()
 }
 
 /// The minimal intervals of the pair (x, y), as pairs of numbers.
@@ -52,7 +51,7 @@ fn longer_carry_times_of_document_01() {
 fn five_animals_of_document_01() {
     let opening = Opening::new(5, 6, 1);
     let listed = [(0, 2, 1), (2, 3, 2), (0, 1, 1), (1, 3, 4), (3, 4, 6)];
-    let contacts = listed.map(|(u, v, t)| Contact::new(u, v, t)).into();
+    let contacts = words::contacts(listed).into();
     assert_eq!(pair(opening, &contacts, 0, 3), [(1, 3)]);
     assert_eq!(pair(opening, &contacts, 0, 4), [(1, 7)]);
 }

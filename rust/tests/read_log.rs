@@ -5,7 +5,7 @@ use herd::testing::compare::{same_table, same_words};
 use herd::testing::model::{self, Contacts};
 use herd::testing::random::Random;
 use herd::testing::suite::{Call, Export, Lent, Reply, Suite};
-use herd::testing::words::{self, Cells, Contact, Interval, Opening};
+use herd::testing::words::{self, Contact, Interval, Opening};
 use herd::{read_log, write_log, Added, Opened, Read, Written};
 use std::collections::BTreeMap;
 
@@ -58,12 +58,6 @@ fn orders(random: &mut Random, contacts: &[Contact]) -> Vec<Vec<Contact>> {
     vec![drawn, sorted, backwards, by_pair, twice, mixed]
 }
 
-/// Whether the set has a journey of two contacts or more that is minimal.
-fn joins(opening: Opening, cells: &Cells) -> bool {
-    let joined = |i: &Interval| i.arrival - i.departure > opening.carry;
-    cells.iter().flatten().any(joined)
-}
-
 /// Reads the contacts in several orders into tables that held several things.
 fn compare_orders(
     suite: &mut Suite,
@@ -87,7 +81,7 @@ fn compare_orders(
             contacts.iter().any(|c| c.tick == opening.ticks),
         ),
         ("carry time above the ticks", opening.carry > opening.ticks),
-        ("joined journeys", joins(opening, &cells)),
+        ("joined journeys", cases::has_joined(opening, &cells)),
     ] {
         *met.entry(name).or_insert(0) += u32::from(has);
     }
@@ -122,23 +116,6 @@ fn longer_logs_in_many_orders() {
     assert!(met.values().all(|&times| times > 30), "{met:?}");
 }
 
-/// Every order of the items.
-fn permutations(items: &[Contact]) -> Vec<Vec<Contact>> {
-    if items.is_empty() {
-        return vec![Vec::new()];
-    }
-    let mut all = Vec::new();
-    for first in 0..items.len() {
-        let mut others = items.to_vec();
-        let chosen = others.remove(first);
-        for mut order in permutations(&others) {
-            order.push(chosen);
-            all.push(order);
-        }
-    }
-    all
-}
-
 #[test]
 fn every_order_leaves_the_same_table() {
     let mut random = Random::new(904);
@@ -155,13 +132,13 @@ fn every_order_leaves_the_same_table() {
         let cells = model::minimal_intervals(opening, &set(&contacts));
         let expected = words::table(opening, &cells);
         let number = Read::Contacts(set(&contacts).len() as u32);
-        for order in permutations(&contacts) {
+        for order in cases::orders(&contacts) {
             let mut table = random.words(expected.len());
             let answer = read_log(&words::log(opening, order.clone()), &mut table);
             assert_eq!(answer, number, "{opening:?} {order:?}");
             same_words(&table, &expected, (opening, &order));
         }
-        joined += u32::from(joins(opening, &cells));
+        joined += u32::from(cases::has_joined(opening, &cells));
     }
     assert!(joined > 50, "{joined}");
 }
@@ -353,11 +330,6 @@ impl Good {
     }
 }
 
-/// The word with another kind.
-fn other_kind(random: &mut Random, word: u32) -> u32 {
-    word ^ random.between(1, 3) << 30
-}
-
 /// The word with one of the unnamed bits 29–26.
 fn unnamed_bit(random: &mut Random, word: u32) -> u32 {
     word | 1 << random.between(26, 29)
@@ -372,7 +344,7 @@ const FIRST_11: [(&str, Wrong); 6] = [
         unnamed_bit(random, good.log[0])
     }),
     ("first, another kind", |good, random| {
-        other_kind(random, good.log[0])
+        cases::other_kind(random, good.log[0])
     }),
     ("first, a contact", |good, _| good.log[1]),
     ("first, the end", |good, _| good.log[good.last()]),
@@ -388,7 +360,7 @@ const BETWEEN_12: [(&str, Wrong); 7] = [
     }),
     ("contact, another kind", |good, random| {
         let contact = good.contact(random);
-        other_kind(random, words::contact_word(contact))
+        cases::other_kind(random, words::contact_word(contact))
     }),
     ("between, an end word", |good, random| {
         let place = good.between(random);
@@ -451,7 +423,7 @@ const LAST_14: [(&str, Wrong); 8] = [
         unnamed_bit(random, good.log[good.last()])
     }),
     ("end, another kind", |good, random| {
-        other_kind(random, good.log[good.last()])
+        cases::other_kind(random, good.log[good.last()])
     }),
     ("last, a contact", |good, random| {
         words::contact_word(good.contact(random))

@@ -62,6 +62,41 @@ pub fn legal_contacts(opening: Opening) -> Vec<Contact> {
     legal
 }
 
+/// The contacts whose places in the list are bits of the number.
+pub fn chosen(contacts: &[Contact], bits: usize) -> Vec<Contact> {
+    let members = contacts.iter().enumerate();
+    let members = members.filter(|(place, _)| bits >> place & 1 == 1);
+    members.map(|(_, &contact)| contact).collect()
+}
+
+/// Every order of the items.
+pub fn orders<T: Copy>(items: &[T]) -> Vec<Vec<T>> {
+    let mut orders = vec![Vec::new()];
+    for (number, &item) in items.iter().enumerate() {
+        let mut longer = Vec::new();
+        for order in &orders {
+            for place in 0..=number {
+                let mut one: Vec<T> = order.clone();
+                one.insert(place, item);
+                longer.push(one);
+            }
+        }
+        orders = longer;
+    }
+    orders
+}
+
+/// Whether some interval is that of two contacts or more.
+pub fn has_joined(opening: Opening, cells: &Cells) -> bool {
+    let joined = |i: &Interval| i.arrival - i.departure > opening.carry;
+    cells.iter().flatten().any(joined)
+}
+
+/// The word with another kind.
+pub fn other_kind(random: &mut Random, word: u32) -> u32 {
+    word ^ random.between(1, 3) << 30
+}
+
 /// The cells of the fresh table over every legal contact: each contact alone is minimal.
 pub fn full_cells(opening: Opening) -> Cells {
     let mut cells = vec![Vec::new(); opening.pairs()];

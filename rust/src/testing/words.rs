@@ -97,6 +97,11 @@ impl Interval {
     }
 }
 
+/// The contacts (u, v, t) of these numbers.
+pub fn contacts<const N: usize>(numbers: [(u32, u32, u32); N]) -> [Contact; N] {
+    numbers.map(|(u, v, t)| Contact::new(u, v, t))
+}
+
 /// The interval of the journey that the contacts form: one or more, each starting where the last arrived, at or after that
 /// arrival.
 pub fn journey(carry: u32, contacts: &[Contact]) -> Option<Interval> {
