@@ -3,7 +3,7 @@
 use crate::exports::{herd_chain, herd_claimed};
 use crate::{Answer, Chain};
 
-/// Writes the contacts of one journey from `u` to `v` that departs at or after `first` and arrives by `last`.
+/// Writes the contacts of one journey from `u` to `v` that fits the window from `first` to `last`.
 ///
 /// Among these journeys it is one with the earliest arrival, then with the latest departure, and it goes by the
 /// lowest-numbered animals. The buffer needs n−1 words.
@@ -16,7 +16,7 @@ pub fn chain(table: &[u32], u: u32, v: u32, first: u32, last: u32, buffer: &mut 
 }
 
 /// Whether the words of `chain` are contacts that the table holds, one or more, and form a journey from `u` to `v` that
-/// departs at or after `first` and arrives by `last`.
+/// fits the window from `first` to `last`.
 ///
 /// Words that are no contacts, or form no such journey, are answered no and not refused.
 #[inline]

@@ -5,10 +5,11 @@
 //! [`reached`] and [`chain`] ask about the journeys of the contacts that were added, and [`claimed`] judges a chain that
 //! somebody claims. A call keeps nothing but the words lent to it, and reads and writes only these.
 //!
-//! A contact leaves one animal at a tick and arrives at another when the carry time is over. A journey is one contact or
-//! more, each starting where the last arrived, at or after that arrival. A window is a first and a last tick; a journey
-//! fits it when it departs at or after the first and arrives by the last. On a well-formed table that no adds built, the
-//! stored intervals stand for the journeys in every question but [`claimed`].
+//! A contact leaves one animal at a tick and arrives at another when the carry time is over. A journey is a row of
+//! contacts, at least one, each leaving the animal that the one before it reached, no earlier than it got there. A window
+//! has a first and a last tick, and a journey fits it that leaves no earlier than the first and is there by the last. A
+//! table need not have been built by adds: as long as it is well formed, its intervals are taken for the journeys in every
+//! question but [`claimed`].
 //!
 //! # Words
 //!
@@ -29,7 +30,7 @@
 //! |---|---|---|
 //! | `open` | 1, 2, 3 | animals, ticks, carry time beyond their limits (1 to 256, 1 to 1,024, 1 to 256) |
 //! | `open` | 4 | the table has not the length for these numbers |
-//! | `read_log` | 11 | fewer than 2 words, or no opening word first |
+//! | `read_log` | 11 | the log has no opening word first, or no word behind it |
 //! | `read_log` | 4 | the table has not the length for this opening word |
 //! | `read_log` | 12, 13 | a word between is no contact word, or its contact is not legal |
 //! | `read_log` | 14 | the last word is no end word with the number of the words between |

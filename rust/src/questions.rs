@@ -3,8 +3,7 @@
 use crate::exports::{herd_connected, herd_earliest, herd_latest, herd_reach, herd_reached};
 use crate::{Answer, Reached, Tick};
 
-/// Whether a journey from `u` to `v` departs at or after `first` and arrives by `last`: yes when one does, no when none
-/// does.
+/// Whether a journey from `u` to `v` fits the window from `first` to `last`: yes when one does, no when none does.
 #[inline]
 pub fn reach(table: &[u32], u: u32, v: u32, first: u32, last: u32) -> Answer {
     // SAFETY: pointer and length are those of one lent slice, and the engine is proved to stay inside.
@@ -25,17 +24,17 @@ pub fn latest(table: &[u32], u: u32, v: u32, last: u32) -> Tick {
     Tick::of(unsafe { herd_latest(table.as_ptr(), table.len(), u, v, last) })
 }
 
-/// Whether each animal can have reached every other one by a journey that departs at or after `first` and arrives by
-/// `last`. One animal alone is connected.
+/// Whether each animal can have reached every other one by a journey that fits the window from `first` to `last`. One
+/// animal alone is connected.
 #[inline]
 pub fn connected(table: &[u32], first: u32, last: u32) -> Answer {
     // SAFETY: pointer and length are those of one lent slice, and the engine is proved to stay inside.
     Answer::of(unsafe { herd_connected(table.as_ptr(), table.len(), first, last) })
 }
 
-/// The animals, without `u`, to which a journey from `u` departs at or after `first` and arrives by `last`.
+/// The animals, without `u`, to which a journey from `u` fits the window from `first` to `last`.
 ///
-/// The set is eight words: animal i is bit i mod 32 of word i/32 rounded down. They are written to the front of `set`, as
+/// The set is eight words of 32 animals each, the first of them in the lowest bit. They are written to the front of `set`, as
 /// many as it has room for; words behind the eighth stay as they are. The answer counts all animals reached.
 #[inline]
 pub fn reached(table: &[u32], u: u32, first: u32, last: u32, set: &mut [u32]) -> Reached {

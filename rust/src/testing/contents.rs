@@ -36,7 +36,7 @@ pub trait Contents {
         others.filter(|&v| self.reaches(u, v, window)).collect()
     }
 
-    /// Whether every ordered pair of different animals is reached in the window.
+    /// Whether each animal reaches each other one in the window.
     fn connects(&self, window: Interval) -> bool {
         let n = self.opening().animals;
         (0..n).all(|u| (0..n).all(|v| u == v || self.reaches(u, v, window)))

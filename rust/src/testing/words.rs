@@ -102,8 +102,8 @@ pub fn contacts<const N: usize>(numbers: [(u32, u32, u32); N]) -> [Contact; N] {
     numbers.map(|(u, v, t)| Contact::new(u, v, t))
 }
 
-/// The interval of the journey that the contacts form: one or more, each starting where the last arrived, at or after that
-/// arrival.
+/// The interval of the journey that the contacts form: at least one, each leaving where and no earlier than when the one
+/// before it arrived.
 pub fn journey(carry: u32, contacts: &[Contact]) -> Option<Interval> {
     let goes_on = |pair: &[Contact]| {
         pair[0].to == pair[1].from && pair[0].interval(carry).arrival <= pair[1].tick
@@ -116,7 +116,7 @@ pub fn journey(carry: u32, contacts: &[Contact]) -> Option<Interval> {
 /// The number of words of a set of animals.
 pub const SET_WORDS: usize = 8;
 
-/// The words of a set of animals: animal i is bit i mod 32 of word i/32 rounded down.
+/// The words of a set of animals: 32 to a word, the first in its lowest bit.
 pub fn set(animals: &[u32]) -> [u32; SET_WORDS] {
     let mut words = [0; SET_WORDS];
     for animal in animals {
