@@ -10,6 +10,7 @@ pub demand2 : Demand2 engine questions
 demand2 =
     record {
       stored = λ n τ δ words A p. stored (run-fresh n τ δ words A (open-none n τ δ words .0 p));
+      fresh-stored = λ n τ δ S T f. stored f;
       answered = λ n τ δ S T f.
           record {
             reach-yes = reach-yes f;
@@ -21,12 +22,12 @@ demand2 =
             connected-yes = connected-yes f;
             connected-no = connected-no f;
             reached-found = reached-found f;
-            reached-eight = reached-eight T;
             reached-bit = reached-bit f;
             reached-count = reached-count f;
             chain-named = named-when f;
-            chain-one = one-chain S δ;
             chain-shown = chain-is-shown f;
             chain-none = none-is-shown f;
           };
+      chain-one = one-chain;
+      reached-eight = reached-eight;
     }

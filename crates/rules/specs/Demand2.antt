@@ -107,15 +107,13 @@ module _ (Q : Questions) (n τ δ : ℕ) (S : Contacts) (T : List ℕ) where
     pub connected-no : (first last : ℕ) → IsWindow τ δ first last → (Q .connected T first last ≡ No) ↔ (¬ AllFit S δ n first last)
     -- Reached from u: the bits of the set record, and its count.
     pub reached-found : (u first last : ℕ) → u < n → IsWindow τ δ first last → Q .reached T u first last ≡ Found
-    pub reached-eight : (u first last : ℕ) → length (Q .reached-words T u first last) ≡ 8
     pub reached-bit : (u first last : ℕ) → u < n → IsWindow τ δ first last
         → (i : ℕ) → i < maxAnimals → BitSet (Q .reached-words T u first last) i ↔ ReachedFrom S δ n u first last i
     pub reached-count : (u first last : ℕ) → u < n → IsWindow τ δ first last
         → (l : List ℕ) × Sorted _<_ l × ((i : ℕ) → List·Memᴰ i l ↔ ReachedFrom S δ n u first last i) × (Q .reached-count T u first last ≡ length l)
-    -- "The chain shown for a yes is the one that document 01's rule names": a chain is named exactly when a journey fits,
-    -- and only one; its number of contacts is the answer, and its words stand at the buffer's start.
+    -- "The chain shown for a yes is the one that document 01's rule names": a chain is named exactly when a journey fits; its
+    -- number of contacts is the answer, and its words stand at the buffer's start.
     pub chain-named : (u v first last : ℕ) → IsPair n u v → Fits S δ u v first last ↔ ((l : List Contact) × NamedChain S δ u v first last l)
-    pub chain-one : (u v first last : ℕ) (l m : List Contact) → NamedChain S δ u v first last l → NamedChain S δ u v first last m → l ≡ m
     pub chain-shown : (u v first last : ℕ) → IsPair n u v → IsWindow τ δ first last → (B : List ℕ) → n ≤ length B + 1
         → (l : List Contact) → NamedChain S δ u v first last l
         → (Q .chain T u v first last B ≡ Chain (length l)) × (Q .chain-leaves T u v first last B ≡ map contactWord l ++ drop (length l) B)
@@ -129,5 +127,11 @@ pub record Demand2 (E : Engine) (Q : Questions) : Type 1 where
   -- list of calls, run on an opened table.
   pub stored : (n τ δ : ℕ) (words : List ℕ) (A : List Contact) → E .open-answer n τ δ words ≡ Opened → (u v : ℕ) → IsPair n u v
       → (i : Interval) → StoredIn n τ (tableAfter E n τ δ words A) u v i ↔ Minimal (LegalOf n τ A) δ u v i
+  -- So are those of any fresh table, however it came about.
+  pub fresh-stored : (n τ δ : ℕ) (S : Contacts) (T : List ℕ) → Fresh n τ δ S T → (u v : ℕ) → IsPair n u v → (i : Interval) → StoredIn n τ T u v i ↔ Minimal S δ u v i
   -- The second and the third sentence, on any fresh table.
   pub answered : (n τ δ : ℕ) (S : Contacts) (T : List ℕ) → Fresh n τ δ S T → AnsweredOn Q n τ δ S T
+  -- Of any set of contacts no more than one chain is named.
+  pub chain-one : (S : Contacts) (δ u v first last : ℕ) (l m : List Contact) → NamedChain S δ u v first last l → NamedChain S δ u v first last m → l ≡ m
+  -- On any words the set record has eight words.
+  pub reached-eight : (T : List ℕ) (u first last : ℕ) → length (Q .reached-words T u first last) ≡ 8
