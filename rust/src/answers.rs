@@ -50,12 +50,21 @@ pub enum Answer {
     Refused(u32),
 }
 
-/// The answer of a question for a tick: [`earliest`](crate::earliest) and [`latest`](crate::latest), which write no lent
-/// word.
+/// The departure and the arrival of a journey; intervals are ordered by departure, then by arrival.
+#[derive(Clone, Copy, Debug, PartialEq, Eq, PartialOrd, Ord)]
+pub struct Interval {
+    /// The tick at which the first contact leaves.
+    pub departure: u32,
+    /// The tick at which the last contact arrives.
+    pub arrival: u32,
+}
+
+/// The answer of a question for an interval: [`earliest`](crate::earliest) and [`latest`](crate::latest), which write
+/// no lent word.
 #[derive(Clone, Copy, Debug, PartialEq, Eq)]
-pub enum Tick {
-    /// The tick asked for.
-    At(u32),
+pub enum Found {
+    /// The interval asked for.
+    At(Interval),
     /// There is none, since no such journey is.
     Nothing,
     /// The refusal's number; nothing is said about the question.
@@ -139,13 +148,13 @@ impl Answer {
     }
 }
 
-impl Tick {
+impl Found {
     /// What the reply says.
-    pub(crate) fn of(reply: u64) -> Tick {
+    pub(crate) fn of(reply: u64) -> Found {
         match parts(reply) {
-            (0, number) => Tick::Refused(number),
-            (1, tick) => Tick::At(tick),
-            (2, 0) => Tick::Nothing,
+            (0, number) => Found::Refused(number),
+            (1, ends) => interval(ends).map_or_else(|| no_answer(reply), Found::At),
+            (2, 0) => Found::Nothing,
             _ => no_answer(reply),
         }
     }
@@ -179,7 +188,58 @@ fn parts(reply: u64) -> (u32, u32) {
     ((reply >> 32) as u32, reply as u32)
 }
 
+/// The interval of an answer's number: the departure is its upper half, the arrival its lower half. A departure is 1 or
+/// later, and an arrival is after its departure.
+fn interval(number: u32) -> Option<Interval> {
+    let (departure, arrival) = (number >> 16, number & 0xFFFF);
+    (1 <= departure && departure < arrival).then_some(Interval { departure, arrival })
+}
+
 /// The engine gave a reply that its call does not have.
 fn no_answer(reply: u64) -> ! {
     panic!("no answer of this call has the reply {reply:#x}")
+}
+
+#[cfg(test)]
+mod tests {
+    use super::{Found, Interval};
+    use std::panic::catch_unwind;
+
+    /// The reply whose upper half says which answer, and whose lower half has these upper and lower halves.
+    fn reply(which: u64, upper: u64, lower: u64) -> u64 {
+        which << 32 | upper << 16 | lower
+    }
+
+    #[test]
+    fn both_ends_of_an_interval_are_read_from_a_reply() {
+        for (departure, arrival) in [(1, 2), (1, 1280), (2, 5), (1023, 1280), (1024, 1280)] {
+            let found = Found::of(reply(1, departure.into(), arrival.into()));
+            assert_eq!(found, Found::At(Interval { departure, arrival }));
+        }
+        assert_eq!(Found::of(reply(2, 0, 0)), Found::Nothing);
+        for number in 5..=9 {
+            let found = Found::of(reply(0, 0, number.into()));
+            assert_eq!(found, Found::Refused(number));
+        }
+    }
+
+    #[test]
+    fn replies_without_an_interval_and_other_replies_are_no_answers() {
+        for (which, upper, lower) in [
+            (1, 0, 0),
+            (1, 0, 5),
+            (1, 5, 0),
+            (1, 5, 5),
+            (1, 1280, 1024),
+            (2, 0, 1),
+            (2, 1, 0),
+            (2, 2, 5),
+            (3, 0, 0),
+            (3, 2, 5),
+            (0xFFFF_FFFF, 2, 5),
+        ] {
+            let read = catch_unwind(|| Found::of(reply(which, upper, lower)));
+            assert!(read.is_err(), "{which} {upper} {lower}: {read:?}");
+        }
+    }
 }

@@ -1,5 +1,5 @@
 //! The engine's exports. A slice is a pointer and a length in words; the reply's upper half says which answer, its lower
-//! half the answer's number.
+//! half the answer's number. The number of an interval is departure·2¹⁶ + arrival.
 
 extern "C" {
     pub fn herd_open(table: *mut u32, words: usize, animals: u32, ticks: u32, carry: u32) -> u64;

@@ -11,6 +11,9 @@
 //! table need not have been built by adds: as long as it is well formed, its intervals are taken for the journeys in every
 //! question but [`claimed`].
 //!
+//! The [`Interval`] of a journey from one animal to another is its departure and its arrival. It is minimal when no
+//! other interval of such a journey lies inside it; [`earliest`] and [`latest`] answer with both ends of a minimal one.
+//!
 //! # Words
 //!
 //! The words of a log and of a chain; the bits that are not named are 0.
@@ -47,7 +50,7 @@
 //! # A session
 //!
 //! ```
-//! use herd::{Added, Answer, Chain, Opened, Tick};
+//! use herd::{Added, Answer, Chain, Found, Interval, Opened};
 //!
 //! let mut table = vec![0; 1 + 4 * 4 * 7];
 //! assert_eq!(herd::open(&mut table, 4, 6, 1), Opened::Opened);
@@ -55,7 +58,8 @@
 //! assert_eq!(herd::add(&mut table, 0, 1, 2), Added::New(2));
 //! assert_eq!(herd::reach(&table, 0, 3, 1, 5), Answer::Yes);
 //! assert_eq!(herd::reach(&table, 0, 3, 3, 7), Answer::No);
-//! assert_eq!(herd::earliest(&table, 0, 3, 2), Tick::At(5));
+//! let interval = Interval { departure: 2, arrival: 5 };
+//! assert_eq!(herd::earliest(&table, 0, 3, 2), Found::At(interval));
 //! let mut words = [0; 3];
 //! assert_eq!(herd::chain(&table, 0, 3, 1, 7, &mut words), Chain::Contacts(2));
 //! assert_eq!(words, [0x4000_0401, 0x4004_0C03, 0]);
@@ -73,7 +77,7 @@ mod questions;
 mod tables;
 pub mod testing;
 
-pub use answers::{Added, Answer, Chain, Opened, Reached, Read, Tick, Written};
+pub use answers::{Added, Answer, Chain, Found, Interval, Opened, Reached, Read, Written};
 pub use chains::{chain, claimed};
 pub use logs::{read_log, write_log};
 pub use questions::{connected, earliest, latest, reach, reached};

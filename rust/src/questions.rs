@@ -1,7 +1,7 @@
 //! Questions about windows and ticks.
 
 use crate::exports::{herd_connected, herd_earliest, herd_latest, herd_reach, herd_reached};
-use crate::{Answer, Reached, Tick};
+use crate::{Answer, Found, Reached};
 
 /// Whether a journey from `u` to `v` fits the window from `first` to `last`: yes when one does, no when none does.
 #[inline]
@@ -10,18 +10,20 @@ pub fn reach(table: &[u32], u: u32, v: u32, first: u32, last: u32) -> Answer {
     Answer::of(unsafe { herd_reach(table.as_ptr(), table.len(), u, v, first, last) })
 }
 
-/// The earliest arrival of a journey from `u` to `v` that departs at or after `first`, or nothing where none departs so.
+/// Of the journeys from `u` to `v` that depart at or after `first`, the interval of one with the earliest arrival, then
+/// with the latest departure; nothing where none departs so. The interval is minimal.
 #[inline]
-pub fn earliest(table: &[u32], u: u32, v: u32, first: u32) -> Tick {
+pub fn earliest(table: &[u32], u: u32, v: u32, first: u32) -> Found {
     // SAFETY: pointer and length are those of one lent slice, and the engine is proved to stay inside.
-    Tick::of(unsafe { herd_earliest(table.as_ptr(), table.len(), u, v, first) })
+    Found::of(unsafe { herd_earliest(table.as_ptr(), table.len(), u, v, first) })
 }
 
-/// The latest departure of a journey from `u` to `v` that arrives by `last`, or nothing where none arrives so.
+/// Of the journeys from `u` to `v` that arrive by `last`, the interval of one with the latest departure, then with the
+/// earliest arrival; nothing where none arrives so. The interval is minimal.
 #[inline]
-pub fn latest(table: &[u32], u: u32, v: u32, last: u32) -> Tick {
+pub fn latest(table: &[u32], u: u32, v: u32, last: u32) -> Found {
     // SAFETY: pointer and length are those of one lent slice, and the engine is proved to stay inside.
-    Tick::of(unsafe { herd_latest(table.as_ptr(), table.len(), u, v, last) })
+    Found::of(unsafe { herd_latest(table.as_ptr(), table.len(), u, v, last) })
 }
 
 /// Whether each animal can have reached every other one by a journey that fits the window from `first` to `last`. One

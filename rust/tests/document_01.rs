@@ -75,6 +75,7 @@ fn words_of_the_session() {
 
 #[test]
 fn marked_and_unmarked_answers_of_the_session() {
+    let at = |departure, arrival| Reply::At(Interval::new(departure, arrival));
     let reached = |u, first, last| Call::Reached(u, first, last, vec![7; 8]);
     let chain = |u, v, first, last, room| Call::Chain(u, v, first, last, vec![7; room]);
     let claimed =
@@ -86,9 +87,9 @@ fn marked_and_unmarked_answers_of_the_session() {
         ("P2", Call::Reach(0, 3, 1, 4), Reply::No),
         ("P2", Call::Reach(0, 3, 3, 7), Reply::No),
         ("P3", Call::Reach(3, 0, 1, 7), Reply::No),
-        ("P4", Call::Earliest(0, 3, 2), Reply::At(5)),
+        ("P4", Call::Earliest(0, 3, 2), at(2, 5)),
         ("P4", Call::Earliest(0, 3, 3), Reply::Nothing),
-        ("P5", Call::Latest(0, 3, 5), Reply::At(2)),
+        ("P5", Call::Latest(0, 3, 5), at(2, 5)),
         ("P5", Call::Latest(0, 3, 4), Reply::Nothing),
         ("P6", chain(0, 3, 1, 7, 3), Reply::Chain(2)),
         ("whole window", Call::Reach(0, 3, 1, 7), Reply::Yes),
@@ -97,13 +98,18 @@ fn marked_and_unmarked_answers_of_the_session() {
         ("last first", Call::Reach(0, 3, 5, 2), Reply::Refused(9)),
         ("one animal", Call::Reach(3, 3, 1, 5), Reply::Refused(8)),
         ("animal 4", Call::Reach(0, 4, 1, 5), Reply::Refused(7)),
-        ("from 1", Call::Earliest(0, 3, 1), Reply::At(5)),
-        ("from 1", Call::Earliest(0, 1, 1), Reply::At(2)),
+        ("from 1", Call::Earliest(0, 3, 1), at(2, 5)),
+        ("from 1", Call::Earliest(0, 1, 1), at(1, 2)),
+        ("from 2", Call::Earliest(0, 1, 2), at(2, 3)),
+        ("from 3", Call::Earliest(0, 1, 3), Reply::Nothing),
         ("last tick", Call::Earliest(0, 3, 7), Reply::Nothing),
         ("one tick more", Call::Earliest(0, 3, 8), Reply::Refused(9)),
         ("tick 0", Call::Earliest(0, 3, 0), Reply::Refused(9)),
-        ("by the last tick", Call::Latest(0, 1, 7), Reply::At(2)),
-        ("by tick 2", Call::Latest(0, 1, 2), Reply::At(1)),
+        ("by the last tick", Call::Latest(0, 3, 7), at(2, 5)),
+        ("by the last tick", Call::Latest(0, 1, 7), at(2, 3)),
+        ("by tick 3", Call::Latest(0, 1, 3), at(2, 3)),
+        ("by tick 2", Call::Latest(0, 1, 2), at(1, 2)),
+        ("by tick 1", Call::Latest(0, 1, 1), Reply::Nothing),
         ("one tick more", Call::Latest(0, 3, 8), Reply::Refused(9)),
         ("tick 0", Call::Latest(0, 3, 0), Reply::Refused(9)),
         ("all", reached(0, 1, 7), Reply::Animals(2)),
@@ -157,12 +163,12 @@ fn longer_carry_times() {
             let log = words::log(opening, order.clone());
             suite.require(&lent, &Call::ReadLog(log), Reply::Read(3));
             let start = opening.cell_start(0, 3);
-            let cell = words::interval_word(Interval::new(departure, arrival));
+            let interval = Interval::new(departure, arrival);
+            let cell = words::interval_word(interval);
             assert_eq!(lent.words[start..start + 3], [0xC000_0001, cell, 0]);
             let way = contacts([(0, 1, departure), (1, 3, 4)]);
-            let found = model::minimal_intervals(opening, &order.iter().copied().collect());
-            let expected = [Interval::new(departure, arrival)];
-            assert_eq!(found[opening.pair(0, 3)], expected);
+            let cells = model::minimal_intervals(opening, &order.iter().copied().collect());
+            assert_eq!(cells[opening.pair(0, 3)], [interval]);
             let end = opening.last_arrival();
             let (u, v) = (0, 3);
             for (first, last, fits) in [
@@ -185,9 +191,7 @@ fn longer_carry_times() {
                 let call = Call::Chain(u, v, first, last, buffer);
                 suite.require(&lent, &call, number);
             }
-            let (first, last) = (departure, arrival);
-            suite.require(&lent, &Call::Earliest(u, v, first), Reply::At(last));
-            suite.require(&lent, &Call::Latest(u, v, last), Reply::At(first));
+            suite.require_rows(&lent, (u, v), &[interval]);
         }
     }
 }
@@ -221,8 +225,10 @@ fn five_animals() {
         suite.require(&lent, &Call::ReadLog(log), Reply::Read(5));
         for ((u, v), interval) in [((0, 3), (1, 3)), ((0, 4), (1, 7))] {
             let start = opening.cell_start(u, v);
-            let cell = words::interval_word(Interval::new(interval.0, interval.1));
+            let interval = Interval::new(interval.0, interval.1);
+            let cell = words::interval_word(interval);
             assert_eq!(lent.words[start..start + 3], [0xC000_0001, cell, 0]);
+            suite.require_rows(&lent, (u, v), &[interval]);
         }
         for (question, expected) in [
             ((0, 4, 1, 7), &p9[..]),

@@ -4,7 +4,7 @@ use herd::testing::calls::accepted;
 use herd::testing::compare::{same_table, same_words};
 use herd::testing::model::{self, Contacts};
 use herd::testing::words::{self, contacts, Cells, Contact, Interval, Opening};
-use herd::{Added, Answer, Chain, Opened, Reached, Read, Tick, Written};
+use herd::{Added, Answer, Chain, Found, Opened, Reached, Read, Written};
 
 /// The largest opening.
 const LARGEST: Opening = Opening {
@@ -12,6 +12,11 @@ const LARGEST: Opening = Opening {
     ticks: 1024,
     carry: 256,
 };
+
+/// The answer with this departure and this arrival.
+fn at(departure: u32, arrival: u32) -> Found {
+    Found::At(Interval::new(departure, arrival))
+}
 
 /// Compares the cells of some animals.
 fn same_cells(table: &[u32], cells: &Cells, animals: &[u32]) {
@@ -128,13 +133,19 @@ fn questions_with_a_few_contacts() {
         assert_eq!(answer, claimed, "{case:?}");
     }
     for ((u, v, tick), earliest, latest) in [
-        ((3, 255, 1), Tick::At(1025), Tick::Nothing),
-        ((3, 255, 1025), Tick::Nothing, Tick::At(1)),
-        ((255, 0, 1024), Tick::At(1280), Tick::Nothing),
-        ((255, 0, 1280), Tick::Nothing, Tick::At(1024)),
-        ((255, 0, 1281), Tick::Refused(9), Tick::Refused(9)),
-        ((255, 255, 0), Tick::Refused(8), Tick::Refused(8)),
-        ((256, 256, 0), Tick::Refused(7), Tick::Refused(7)),
+        ((3, 255, 1), at(1, 1025), Found::Nothing),
+        ((3, 255, 2), Found::Nothing, Found::Nothing),
+        ((3, 255, 1024), Found::Nothing, Found::Nothing),
+        ((3, 255, 1025), Found::Nothing, at(1, 1025)),
+        ((3, 255, 1280), Found::Nothing, at(1, 1025)),
+        ((255, 0, 1), at(1024, 1280), Found::Nothing),
+        ((255, 0, 1024), at(1024, 1280), Found::Nothing),
+        ((255, 0, 1025), Found::Nothing, Found::Nothing),
+        ((255, 0, 1279), Found::Nothing, Found::Nothing),
+        ((255, 0, 1280), Found::Nothing, at(1024, 1280)),
+        ((255, 0, 1281), Found::Refused(9), Found::Refused(9)),
+        ((255, 255, 0), Found::Refused(8), Found::Refused(8)),
+        ((256, 256, 0), Found::Refused(7), Found::Refused(7)),
     ] {
         let case = (u, v, tick);
         assert_eq!(herd::earliest(table, u, v, tick), earliest, "{case:?}");
@@ -181,7 +192,7 @@ fn questions_with_a_few_contacts() {
         assert_eq!(herd::reach(table, 256, 256, 0, 0), refused);
         assert_eq!(herd::claimed(table, 256, 256, 0, 0, &way), refused);
         assert_eq!(herd::connected(table, 0, 0), refused);
-        let refused = Tick::Refused(number);
+        let refused = Found::Refused(number);
         assert_eq!(herd::earliest(table, 256, 256, 0), refused);
         assert_eq!(herd::latest(table, 256, 256, 0), refused);
         let found = herd::chain(table, 256, 256, 0, 0, &mut buffer);
@@ -285,10 +296,19 @@ fn every_legal_contact() {
     assert_eq!(set, all_but_77);
     let reached = herd::reached(&table, 77, 512, 767, &mut set);
     assert_eq!((reached, set), (Reached::Animals(0), [0; 8]));
-    assert_eq!(herd::earliest(&table, 255, 254, 1024), Tick::At(1280));
-    assert_eq!(herd::earliest(&table, 255, 254, 1025), Tick::Nothing);
-    assert_eq!(herd::latest(&table, 0, 255, 1280), Tick::At(1024));
-    assert_eq!(herd::latest(&table, 0, 255, 256), Tick::Nothing);
+    for (tick, earliest, latest) in [
+        (1, at(1, 257), Found::Nothing),
+        (256, at(256, 512), Found::Nothing),
+        (257, at(257, 513), at(1, 257)),
+        (1023, at(1023, 1279), at(767, 1023)),
+        (1024, at(1024, 1280), at(768, 1024)),
+        (1025, Found::Nothing, at(769, 1025)),
+        (1279, Found::Nothing, at(1023, 1279)),
+        (1280, Found::Nothing, at(1024, 1280)),
+    ] {
+        assert_eq!(herd::earliest(&table, 255, 254, tick), earliest, "{tick}");
+        assert_eq!(herd::latest(&table, 0, 255, tick), latest, "{tick}");
+    }
     let chain = herd::chain(&table, 255, 0, 700, 956, &mut buffer);
     assert_eq!(chain, Chain::Contacts(1));
     let way = words::contact_word(Contact::new(255, 0, 700));

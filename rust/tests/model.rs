@@ -7,8 +7,10 @@ use herd::testing::model::{self, Contacts, Journeys};
 use herd::testing::random::Random;
 use herd::testing::rule::Stored;
 use herd::testing::suite::{Export, Lent};
-use herd::testing::words::{self, Contact, Interval, Opening};
+use herd::testing::words::{self, Cells, Contact, Interval, Opening};
 use herd::{Added, Read};
+use std::collections::BTreeSet;
+use std::fmt::Debug;
 
 /// The contacts of document 01's session.
 fn session() -> Contacts {
@@ -39,6 +41,14 @@ fn session_of_document_01() {
         0xC000_0003,
     ];
     assert_eq!(words::log(opening, session()), log);
+    let journeys = Journeys::new(opening, session());
+    let p4_and_p5 = Some(Interval::new(2, 5));
+    assert_eq!(journeys.earliest(0, 3, 1), p4_and_p5);
+    assert_eq!(journeys.earliest(0, 3, 2), p4_and_p5);
+    assert_eq!(journeys.earliest(0, 3, 3), None);
+    assert_eq!(journeys.latest(0, 3, 7), p4_and_p5);
+    assert_eq!(journeys.latest(0, 3, 5), p4_and_p5);
+    assert_eq!(journeys.latest(0, 3, 4), None);
 }
 
 #[test]
@@ -54,6 +64,11 @@ fn five_animals_of_document_01() {
     let contacts = words::contacts(listed).into();
     assert_eq!(pair(opening, &contacts, 0, 3), [(1, 3)]);
     assert_eq!(pair(opening, &contacts, 0, 4), [(1, 7)]);
+    let journeys = Journeys::new(opening, contacts);
+    let by_two = Some(Interval::new(1, 3));
+    assert_eq!(journeys.earliest(0, 3, 1), by_two);
+    assert_eq!(journeys.latest(0, 3, 7), by_two);
+    assert_eq!(journeys.latest(0, 4, 7), Some(Interval::new(1, 7)));
 }
 
 /// Every journey that goes on with this contact: its interval is noted for its first and last animal.
@@ -62,15 +77,32 @@ fn follow(
     contacts: &Contacts,
     first: Contact,
     taken: Contact,
-    noted: &mut Vec<(u32, u32, Interval)>,
+    noted: &mut Cells,
 ) {
     let arrival = taken.tick + opening.carry;
-    noted.push((first.from, taken.to, Interval::new(first.tick, arrival)));
+    noted[opening.pair(first.from, taken.to)].push(Interval::new(first.tick, arrival));
     for &next in contacts {
         if next.from == taken.to && next.tick >= arrival {
             follow(opening, contacts, first, next, noted);
         }
     }
+}
+
+/// The intervals of every journey of each ordered pair, by listing every journey.
+fn listed(opening: Opening, contacts: &Contacts) -> Cells {
+    let mut noted = vec![Vec::new(); opening.pairs()];
+    for &first in contacts {
+        follow(opening, contacts, first, first, &mut noted);
+    }
+    noted
+}
+
+/// Those of the intervals inside which no other one lies, by departure.
+fn minimal(intervals: &[Interval]) -> Vec<Interval> {
+    let inside = |j: &Interval, i: &Interval| i.departure <= j.departure && j.arrival <= i.arrival;
+    let alone = |i: &&Interval| !intervals.iter().any(|j| j != *i && inside(j, i));
+    let minimal: BTreeSet<Interval> = intervals.iter().filter(alone).copied().collect();
+    minimal.into_iter().collect()
 }
 
 #[test]
@@ -86,22 +118,10 @@ fn search_finds_what_listing_every_journey_finds() {
         let contacts: Contacts = (0..number)
             .map(|_| cases::contact(&mut random, opening))
             .collect();
-        let mut journeys = Vec::new();
-        for &first in &contacts {
-            follow(opening, &contacts, first, first, &mut journeys);
-        }
-        let mut expected = vec![Vec::new(); opening.pairs()];
-        for &(x, y, interval) in &journeys {
-            let others = journeys
-                .iter()
-                .filter(|j| (j.0, j.1) == (x, y) && j.2 != interval);
-            if x != y && !others.into_iter().any(|j| j.2.within(interval)) {
-                expected[opening.pair(x, y)].push(interval);
-            }
-        }
-        for cell in &mut expected {
-            cell.sort();
-            cell.dedup();
+        let mut expected = listed(opening, &contacts);
+        for (place, cell) in expected.iter_mut().enumerate() {
+            let is_one = place % (opening.animals as usize + 1) == 0;
+            *cell = if is_one { Vec::new() } else { minimal(cell) };
         }
         let found = model::minimal_intervals(opening, &contacts);
         assert_eq!(found, expected, "{opening:?} {contacts:?}");
@@ -119,27 +139,18 @@ fn answers_are_those_of_listing_every_journey() {
         );
         let contacts = cases::log_contacts(&mut random, opening, 9);
         let contacts: Contacts = contacts.into_iter().collect();
-        let mut journeys = Vec::new();
-        for &first in &contacts {
-            follow(opening, &contacts, first, first, &mut journeys);
-        }
+        let journeys = listed(opening, &contacts);
         let found = Journeys::new(opening, contacts.clone());
         let (n, end) = (opening.animals, opening.last_arrival());
-        let between = |x, y| journeys.iter().filter(move |j| (j.0, j.1) == (x, y));
-        let departs = |first| move |i: &&(u32, u32, Interval)| i.2.departure >= first;
-        let arrives = |last| move |i: &&(u32, u32, Interval)| i.2.arrival <= last;
         for first in 1..=end {
             for last in first..=end {
                 let (window, case) = (Interval::new(first, last), (opening, &contacts));
                 let mut pairs = 0;
                 for x in 0..n {
+                    let fits = |i: &Interval| first <= i.departure && i.arrival <= last;
                     let reached: Vec<u32> = (0..n)
                         .filter(|&y| y != x)
-                        .filter(|&y| {
-                            between(x, y)
-                                .filter(departs(first))
-                                .any(|i| arrives(last)(&i))
-                        })
+                        .filter(|&y| journeys[opening.pair(x, y)].iter().any(fits))
                         .collect();
                     assert_eq!(found.reached(x, window), reached, "{case:?} {window:?}");
                     for y in (0..n).filter(|&y| y != x) {
@@ -151,19 +162,76 @@ fn answers_are_those_of_listing_every_journey() {
                 let all = pairs == (n * (n - 1)) as usize;
                 assert_eq!(found.connects(window), all, "{case:?} {window:?}");
             }
-            for x in 0..n {
-                for y in (0..n).filter(|&y| y != x) {
-                    let case = (opening, &contacts, x, y, first);
-                    let departing = between(x, y).filter(departs(first));
-                    let earliest = departing.map(|j| j.2.arrival).min();
-                    assert_eq!(found.earliest(x, y, first), earliest, "{case:?}");
-                    let arriving = between(x, y).filter(arrives(first));
-                    let latest = arriving.map(|j| j.2.departure).max();
-                    assert_eq!(found.latest(x, y, first), latest, "{case:?}");
+        }
+    }
+}
+
+/// Fails unless the interval told is the only minimal one that is asked for and than which none asked for is better, and
+/// one is told exactly where one is asked for. Whether another one asked for is as good as it.
+#[track_caller]
+fn is_the_best(
+    told: Option<Interval>,
+    (all, minimal): (&[Interval], &[Interval]),
+    is_asked: impl Fn(&Interval) -> bool,
+    better: impl Fn(&Interval, &Interval) -> bool,
+    case: impl Debug,
+) -> bool {
+    let asked: Vec<&Interval> = all.iter().filter(|i| is_asked(i)).collect();
+    let best = |i: &&Interval| asked.contains(i) && !asked.iter().any(|j| better(j, i));
+    let expected: Vec<Interval> = minimal.iter().filter(best).copied().collect();
+    assert_eq!(Vec::from_iter(told), expected, "{case:?}");
+    assert_eq!(told.is_some(), !asked.is_empty(), "{case:?}");
+    told.is_some_and(|i| asked.iter().any(|&j| *j != i && !better(&i, j)))
+}
+
+#[test]
+fn earliest_and_latest_are_the_minimal_intervals_of_listing_every_journey() {
+    let mut random = Random::new(206);
+    let (mut found, mut nothing) = (0, 0);
+    let (mut other_departures, mut other_arrivals) = (0, 0);
+    for _ in 0..2_000 {
+        let opening = Opening::new(
+            random.between(2, 4),
+            random.between(1, 9),
+            random.between(1, 3),
+        );
+        let number = random.below(18);
+        let contacts: Contacts = (0..number)
+            .map(|_| cases::contact(&mut random, opening))
+            .collect();
+        let n = opening.animals;
+        let journeys = Journeys::new(opening, contacts.clone());
+        for (pair, all) in (0..).zip(&listed(opening, &contacts)) {
+            let (x, y) = (pair / n, pair % n);
+            let intervals = (&all[..], &minimal(all)[..]);
+            for tick in (1..=opening.last_arrival()).filter(|_| x != y) {
+                let case = (opening, &contacts, x, y, tick);
+                let earliest = journeys.earliest(x, y, tick);
+                other_departures += u32::from(is_the_best(
+                    earliest,
+                    intervals,
+                    |i| i.departure >= tick,
+                    |j, i| j.arrival < i.arrival,
+                    case,
+                ));
+                let latest = journeys.latest(x, y, tick);
+                other_arrivals += u32::from(is_the_best(
+                    latest,
+                    intervals,
+                    |i| i.arrival <= tick,
+                    |j, i| j.departure > i.departure,
+                    case,
+                ));
+                for told in [earliest, latest] {
+                    found += u32::from(told.is_some());
+                    nothing += u32::from(told.is_none());
                 }
             }
         }
     }
+    assert!(found > 10_000 && nothing > 10_000, "{found} {nothing}");
+    let others = (other_departures, other_arrivals);
+    assert!(others.0 > 500 && others.1 > 500, "{others:?}");
 }
 
 #[test]
@@ -242,9 +310,9 @@ fn is_the_chain(journeys: &Journeys, chain: &[Contact], (u, v): (u32, u32), wind
     let ends = (chain[0].from, chain[chain.len() - 1].to);
     assert_eq!((ends, taken.fits(window)), ((u, v), true), "{case:?}");
     let earliest = journeys.earliest(u, v, window.departure);
-    assert_eq!(earliest, Some(taken.arrival), "{case:?}");
+    assert_eq!(earliest, Some(taken), "{case:?}");
     let latest = journeys.latest(u, v, taken.arrival);
-    assert_eq!(latest, Some(taken.departure), "{case:?}");
+    assert_eq!(latest, Some(taken), "{case:?}");
     assert!(chain.len() < opening.animals as usize, "{case:?}");
 }
 

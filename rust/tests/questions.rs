@@ -2,8 +2,9 @@
 
 use herd::testing::cases;
 use herd::testing::random::Random;
-use herd::testing::suite::{Call, Lent, Reply, Suite};
+use herd::testing::suite::{Call, Export, Lent, Reply, Suite};
 use herd::testing::words::{self, Contact, Interval, Opening};
+use herd::Found;
 
 /// Yes where it is so, else no.
 fn answered(so: bool) -> Reply {
@@ -11,15 +12,6 @@ fn answered(so: bool) -> Reply {
         Reply::Yes
     } else {
         Reply::No
-    }
-}
-
-/// The tick where it is one, else nothing.
-fn told(is_one: bool, tick: u32) -> Reply {
-    if is_one {
-        Reply::At(tick)
-    } else {
-        Reply::Nothing
     }
 }
 
@@ -57,10 +49,9 @@ fn windows_and_ticks_at_the_edges_of_full_tables() {
         }
         ask(end + 1, end + 1, Reply::Refused(9));
         for tick in 1..=end {
-            let arrival = told(tick <= ticks, tick + carry);
-            suite.require(&lent, &Call::Earliest(u, v, tick), arrival);
-            let departure = told(tick > carry, tick.max(carry) - carry);
-            suite.require(&lent, &Call::Latest(u, v, tick), departure);
+            let earliest = (tick <= ticks).then(|| Interval::new(tick, tick + carry));
+            let latest = (tick > carry).then(|| Interval::new(tick - carry, tick));
+            suite.require_at_tick(&lent, (u, v), tick, earliest, latest);
         }
         for tick in [0, end + 1, end + 2, u32::MAX] {
             let refused = Reply::Refused(9);
@@ -73,20 +64,79 @@ fn windows_and_ticks_at_the_edges_of_full_tables() {
 #[test]
 fn earliest_and_latest_go_by_the_row_next_to_the_tick() {
     let mut suite = Suite::default();
-    let opening = Opening::new(2, 40, 2);
-    let rows = [(3, 6), (4, 9), (10, 12), (11, 20), (25, 30), (40, 42)];
-    let mut cells = vec![Vec::new(); opening.pairs()];
-    cells[1] = rows.map(|(d, a)| Interval::new(d, a)).to_vec();
-    let lent = Lent::stored(opening, &cells);
-    let (u, v) = (0, 1);
-    for tick in 1..=42 {
-        let next = rows.iter().find(|(departure, _)| *departure >= tick);
-        let arrival = next.map_or(Reply::Nothing, |&(_, arrival)| Reply::At(arrival));
-        suite.require(&lent, &Call::Earliest(u, v, tick), arrival);
-        let before = rows.iter().rev().find(|(_, arrival)| *arrival <= tick);
-        let departure = before.map_or(Reply::Nothing, |&(departure, _)| Reply::At(departure));
-        suite.require(&lent, &Call::Latest(u, v, tick), departure);
+    let small = Opening::new(3, 40, 2);
+    let several = [(3, 6), (4, 9), (10, 12), (11, 20), (25, 30), (40, 42)];
+    let mut few = vec![Vec::new(); small.pairs()];
+    few[small.pair(0, 1)] = several.map(|(d, a)| Interval::new(d, a)).to_vec();
+    few[small.pair(1, 0)] = vec![Interval::new(7, 30)];
+    few[small.pair(1, 2)] = vec![Interval::new(1, 3), Interval::new(40, 42)];
+    let large = Opening::new(2, 1024, 256);
+    let mut many = cases::full_cells(large);
+    let every_other = (1..=1024).step_by(2).map(|d| Interval::new(d, d + 257));
+    many[large.pair(1, 0)] = every_other.collect();
+    for (opening, cells) in [(small, few), (large, many)] {
+        let lent = Lent::stored(opening, &cells);
+        for u in 0..opening.animals {
+            for v in (0..opening.animals).filter(|&v| v != u) {
+                suite.require_rows(&lent, (u, v), &cells[opening.pair(u, v)]);
+            }
+        }
     }
+    suite.at_least(100, &[Export::Earliest, Export::Latest], &[]);
+}
+
+#[test]
+fn both_ends_at_their_limits() {
+    let mut random = Random::new(1_104);
+    let first = Found::At(Interval::new(1, 257));
+    let last = Found::At(Interval::new(1024, 1280));
+    for animals in [2, 3] {
+        let opening = Opening::new(animals, 1024, 256);
+        let listed = words::contacts([(0, 1, 1), (0, 1, 1024)]);
+        let table = Lent::built(&mut random, opening, &listed).words;
+        for (tick, earliest, latest) in [
+            (1, first, Found::Nothing),
+            (2, last, Found::Nothing),
+            (256, last, Found::Nothing),
+            (257, last, first),
+            (1024, last, first),
+            (1025, Found::Nothing, first),
+            (1279, Found::Nothing, first),
+            (1280, Found::Nothing, last),
+            (1281, Found::Refused(9), Found::Refused(9)),
+        ] {
+            assert_eq!(herd::earliest(&table, 0, 1, tick), earliest, "{tick}");
+            assert_eq!(herd::latest(&table, 0, 1, tick), latest, "{tick}");
+        }
+    }
+}
+
+#[test]
+fn earliest_and_latest_go_round_a_ring() {
+    let mut random = Random::new(1_105);
+    let mut suite = Suite::default();
+    for (animals, step, carry) in [(2, 1, 1), (3, 3, 1), (4, 2, 2), (5, 3, 2), (6, 4, 3)] {
+        let opening = Opening::new(animals, 2 * animals * step + 1, carry);
+        let ring: Vec<Contact> = cases::legal_contacts(opening)
+            .into_iter()
+            .filter(|c| c.to == (c.from + 1) % animals && c.tick % step == 0)
+            .collect();
+        let lent = Lent::built(&mut random, opening, &ring);
+        let end = opening.last_arrival();
+        for (u, contacts) in (0..animals).flat_map(|u| (1..animals).map(move |c| (u, c))) {
+            let pair = (u, (u + contacts) % animals);
+            let lasts = step * (contacts - 1) + carry;
+            let leaving = |departure| Interval::new(departure, departure + lasts);
+            for tick in 1..=end {
+                let earliest = leaving(tick.next_multiple_of(step));
+                let earliest = Some(earliest).filter(|i| i.arrival <= end);
+                let latest = leaving(tick.saturating_sub(lasts) / step * step);
+                let latest = Some(latest).filter(|i| i.departure >= step);
+                suite.require_at_tick(&lent, pair, tick, earliest, latest);
+            }
+        }
+    }
+    suite.at_least(100, &[Export::Earliest, Export::Latest], &[]);
 }
 
 #[test]
@@ -175,7 +225,9 @@ fn stored_intervals_stand_for_the_journeys() {
     let lent = Lent::stored(opening, &cells);
     let (u, v, first, last) = (0, 2, 1, 9);
     suite.require(&lent, &Call::Reach(u, v, first, last), Reply::Yes);
-    suite.require(&lent, &Call::Earliest(u, v, first), Reply::At(7));
+    let stored = Reply::At(Interval::new(2, 7));
+    suite.require(&lent, &Call::Earliest(u, v, first), stored);
+    suite.require(&lent, &Call::Latest(u, v, 7), stored);
     suite.require(&lent, &Call::Latest(u, v, 6), Reply::Nothing);
     let buffer = random.words(2);
     let call = Call::Chain(u, v, first, last, buffer);

@@ -1,16 +1,15 @@
 -- A cell's rows in use with other words behind them: what the words say, and the latest departure found in them.
 use mathlib.Core.Path.{_≡_, refl, sym, ap, subst, _∙_}
-use mathlib.Core.Logic.{_≢_, ⊎-elim}
-use mathlib.Core.List.{List, [], _∷_, _++_, map, List·Memᴰ, List·Memᴰ·head, List·Memᴰ·tail, List·Memᴰ·cases-cons, List·Memᴰ·not-nil}
+use mathlib.Core.Logic.{_≢_}
+use mathlib.Core.Option.{Option, Option·map}
+use mathlib.Core.List.{List, _++_, map, List·Memᴰ}
 use Prim.Native.Nat.{ℕ, zero, suc, _+_, _-_, _≤_, _<_}
-use native.Mathlib.Nat.{le-of-eq}
 use native.Mathlib.Numerals.{add-one}
 use native.Mathlib.Omega.{arith}
 use lib.ListN.{length, getD, take, drop, length-append, length-map}
 use lib.Seq.{take-at, drop-at}
-use borrow.Author.Tests.{lt-ltb}
 use Rattle.journeys.specs.Journey.{Interval}
-use Rattle.journeys.specs.Cell.{Cell, Rising, latestDeparture}
+use Rattle.journeys.specs.Cell.{Cell, Rising, latestDeparting, latestDeparture}
 use Rattle.words.specs.Layout.{get}
 use Rattle.words.specs.Words.{rowsField, departureField, arrivalField, intervalWord, intervalOf}
 use Rattle.words.proofs.Packed.{intervalOf-word, rowsOf-word}
@@ -18,7 +17,7 @@ use Rattle.rules.specs.Limits.{maxTicks, maxArrival, maxCellWords}
 use Rattle.rules.specs.Layout.{cellOf}
 use Rattle.rules.proofs.Folds.{map-back}
 use Rattle.cells.specs.Stored.{RowsInUse, departureEnd, arrivalEnd, frontBelow, orZero}
-use Rattle.cells.proofs.Search.{front-length, latest-none, latest-some}
+use Rattle.cells.proofs.Search.{arrival-follows, front-length, front-gt, latest-none, latest-some}
 use Rattle.cells.proofs.Lent.{row-is}
 use Rattle.building.specs.RowsInUse.{withRows, InUse}
 
@@ -88,39 +87,24 @@ counted {n} {xs} s e =
 pub searchable : {xs : List ℕ} → InUse xs → RowsInUse xs
 searchable {xs} s = record { within = omega (arith, count-is xs s, s .fits); rising = s .rising }
 
--- No interval of a rising cell arrives after the last.
-last-latest : (c : Cell) (z : Interval) (k : ℕ) → Rising c → length c ≡ k + 1 → (i : Interval) → List·Memᴰ i c → i .arrival ≤ getD c k z .arrival
-last-latest [] z k u e i m = absurd (List·Memᴰ·not-nil m)
-last-latest (j ∷ []) z zero u e i m = ⊎-elim (λ q. le-of-eq (ap arrivalEnd q)) (λ q. absurd (List·Memᴰ·not-nil q)) (List·Memᴰ·cases-cons m)
-last-latest (j ∷ []) z (suc k) u e i m = absurd (omega arith)
-last-latest (j ∷ l ∷ c) z zero u e i m = absurd (omega arith)
-last-latest (j ∷ l ∷ c) z (suc k) u e i m =
-    ⊎-elim (λ q. let a = last-latest (l ∷ c) z k (u .1) (omega arith) l (List·Memᴰ·head refl) in let b = ap arrivalEnd q in let d = u .0 .1 in omega arith)
-    (last-latest (l ∷ c) z k (u .1) (omega arith) i) (List·Memᴰ·cases-cons m)
-
--- Where all arrive before m, all stand in front of it.
-all-below : (m : ℕ) (c : Cell) → ((i : Interval) → List·Memᴰ i c → i .arrival < m) → length c ≡ frontBelow arrivalEnd m c
-unfolding frontBelow
-all-below m [] f = refl
-all-below m (i ∷ c) f = rw (lt-ltb (i .arrival) m (f i (List·Memᴰ·head refl))) (ap suc (all-below m c (λ j q. f j (List·Memᴰ·tail q))))
-
 module _ (t : ℕ) {n : ℕ} {xs : List ℕ} (p : Counted n xs) where
   -- No rows, no departure.
   pub latest-empty : n ≡ 0 → 0 ≡ orZero (latestDeparture (cellOf xs) t)
+  unfolding latestDeparture
   latest-empty z =
-      ap orZero (sym (latest-none t (cellOf xs) (p .in-use .rising) (omega (arith, p .rows, front-length arrivalEnd (t + 1) (cellOf xs)))))
+      ap (λ (o : Option Interval). orZero (Option·map departureEnd o))
+      (sym (latest-none t (cellOf xs) (intervalOf 0) (p .in-use .rising) (omega (arith, p .rows, front-length arrivalEnd (t + 1) (cellOf xs)))))
 
   -- Where the last row arrives by t, its departure is the latest.
   pub latest-last : n ≢ 0 → get arrivalField (getD xs n 0) ≤ t → get departureField (getD xs n 0) ≡ orZero (latestDeparture (cellOf xs) t)
+  unfolding latestDeparture
   latest-last = go n (p .rows)
     where
       go : (n : ℕ) → n ≡ length (cellOf xs) → n ≢ 0 → get arrivalField (getD xs n 0) ≤ t
-          → get departureField (getD xs n 0) ≡ orZero (latestDeparture (cellOf xs) t)
+          → get departureField (getD xs n 0) ≡ orZero (Option·map departureEnd (latestDeparting (cellOf xs) t))
       go zero q z h = absurd (z refl)
       go (suc k) q z h =
-          let l : length (cellOf xs) ≡ k + 1 = omega arith in
-          let r = row-is xs k (omega arith) in
-          let a : getD (cellOf xs) k (intervalOf 0) .arrival ≤ t = subst (λ (i : ℕ). i ≤ t) (sym (ap arrivalEnd r ∙ ap (λ (i : ℕ). get arrivalField (getD xs i 0)) (add-one k))) h in
-          let b = all-below (t + 1) (cellOf xs) (λ i m. let w = last-latest (cellOf xs) (intervalOf 0) k (p .in-use .rising) l i m in omega arith) in
-          let f : frontBelow arrivalEnd (t + 1) (cellOf xs) ≡ suc k = omega (arith, b, l) in
-          sym (ap orZero (latest-some t (cellOf xs) k (intervalOf 0) (p .in-use .rising) f) ∙ ap departureEnd r ∙ ap (λ (i : ℕ). get departureField (getD xs i 0)) (add-one k))
+          let r : getD (cellOf xs) k (intervalOf 0) ≡ intervalOf (getD xs (suc k) 0) = rw (add-one k) at (row-is xs k (omega arith)) in
+          let a : getD (cellOf xs) k (intervalOf 0) .arrival < t + 1 = rw r (let w : get arrivalField (getD xs (suc k) 0) < t + 1 = omega arith in w) in
+          let f : frontBelow arrivalEnd (t + 1) (cellOf xs) ≡ suc k = omega (arith, front-gt arrivalEnd (t + 1) arrival-follows (cellOf xs) k (intervalOf 0) (p .in-use .rising) (omega arith) a, front-length arrivalEnd (t + 1) (cellOf xs)) in
+          sym (ap (λ (o : Option Interval). orZero (Option·map departureEnd o)) (latest-some t (cellOf xs) (intervalOf 0) (p .in-use .rising) k f) ∙ ap departureEnd r)

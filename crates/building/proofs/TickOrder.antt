@@ -2,7 +2,7 @@
 use mathlib.Core.Path.{_≡_, refl, subst, ap, _∙_}
 use mathlib.Core.Logic.{_≢_}
 use mathlib.Core.Bool.{Bool, true, false, cond, _||_}
-use mathlib.Core.Option.{Option, none, some}
+use mathlib.Core.Option.{Option, none, some, Option·map}
 use mathlib.Core.List.{List, [], _∷_, _++_, List·Memᴰ, List·Memᴰ·head, List·Memᴰ·tail}
 use Prim.Native.Nat.{ℕ, zero, suc, _+_, _≤_, _<_}
 use native.Mathlib.Omega.{arith}
@@ -13,6 +13,7 @@ use Rattle.journeys.specs.Journey.{Contact, contact, In, Interval, interval, si
 use Rattle.journeys.specs.Cell.{Cell, Rising, earliestArrival, inside, hasInside, withoutContaining, putInOrder, enter}
 use Rattle.journeys.specs.Adding.{Cells, departureOf, arrivalOf, enterBoth, add, addAll, cellsOver}
 use Rattle.journeys.proofs.Tests.{Outcome, holds, fails, le-outcome}
+use Rattle.journeys.proofs.First.{first-none, earliest-arriving}
 use Rattle.journeys.proofs.Reach.{journey-limits}
 use Rattle.journeys.proofs.Theorems.{closure}
 use Rattle.cells.proofs.Search.{getD-member}
@@ -65,8 +66,7 @@ enter-last i (j ∷ k ∷ c) u f =
 -- Where every row departs before t there is no arrival.
 earliest-past : (t : ℕ) (c : Cell) → ((i : Interval) → List·Memᴰ i c → i .departure < t) → earliestArrival c t ≡ none
 unfolding earliestArrival
-earliest-past t [] f = refl
-earliest-past t (i ∷ c) f = rw (lt-leb t (i .departure) (f i (List·Memᴰ·head refl))) (earliest-past t c (λ j m. f j (List·Memᴰ·tail m)))
+earliest-past t c f = ap (Option·map (λ i. i .arrival)) (first-none (earliest-arriving t c) .1 (λ j m h. let l = f j m in omega arith))
 
 -- A contact after which no journey goes on from its animal changes only the cells that end there.
 pub add-elsewhere : (δ : ℕ) (T : Cells) (k : Contact) (x y : ℕ) → y ≢ k .to

@@ -1,4 +1,5 @@
 pub mod Search
 pub mod Lent
+pub mod Rows
 pub mod Fitting
 pub mod RowLoop

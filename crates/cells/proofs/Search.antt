@@ -1,19 +1,18 @@
 -- What a search in a rising cell finds: the rows at the front have their end below t, and no other has.
-use mathlib.Core.Path.{_≡_, refl, ap, subst, _∙_}
-use mathlib.Core.Bool.{Bool, false, cond, or-false}
-use mathlib.Core.Option.{Option, none, some}
+use mathlib.Core.Path.{_≡_, refl, sym, ap}
+use mathlib.Core.Bool.{Bool, cond}
+use mathlib.Core.Option.{none, some}
 use mathlib.Core.List.{List, [], _∷_, map, List·Memᴰ, List·Memᴰ·head, List·Memᴰ·tail}
-use Prim.Native.Nat.{ℕ, zero, suc, _+_, _-_, _/_, _≤_, _<_, min}
+use Prim.Native.Nat.{ℕ, zero, suc, _+_, _-_, _/_, _≤_, _<_}
+use native.Mathlib.Nat.{le-of-eq}
 use native.Mathlib.Omega.{arith}
-use lib.ListN.{length, getD, drop, length-map, drop-of-length-le, List·getD-map}
-use lib.Seq.{drop-cons}
-use borrow.Author.Tests.{le-leb, lt-leb, ne-eqb}
+use lib.ListN.{length, getD, length-map, List·getD-map}
 use Rattle.journeys.specs.Journey.{Interval}
-use Rattle.journeys.specs.Cell.{Cell, Rising, later, sooner, latestDeparture, earliestArrival}
+use Rattle.journeys.specs.Cell.{Cell, Rising, latestDeparting, earliestArriving}
 use Rattle.journeys.proofs.Tests.{Outcome, holds, fails, lt-outcome}
-use Rattle.journeys.proofs.Cover.{covers-find, rising-after, arrival-path, NotAfter, earliest-iff}
+use Rattle.journeys.proofs.First.{first-some, first-none, latest-departing, earliest-arriving}
+use Rattle.journeys.proofs.Cover.{rising-after, one-arrival, one-departure}
 use Rattle.words.specs.Words.{intervalOf}
-use Rattle.rules.specs.Adding.{sameInterval, stands}
 use Rattle.cells.specs.Stored.{departureEnd, arrivalEnd, frontBelow}
 
 -- The end f is later where both departure and arrival are.
@@ -157,152 +156,68 @@ module _ (f : Interval → ℕ) (t : ℕ) (rows : List ℕ) where
   pub halves-end : (lo hi : ℕ) → Halves f t rows lo hi → hi ≤ lo → lo ≡ frontBelow f t (map intervalOf rows)
   halves-end lo hi h l = omega (arith, h .lower, h .upper)
 
--- ---- what passes over the rows in front of the place
+-- ---- the row at the place
 
--- The rows from some index on rise.
-rising-drop : (n : ℕ) (c : Cell) → Rising c → Rising (drop n c)
-rising-drop zero c u = u
-rising-drop (suc n) [] u = u
-rising-drop (suc n) (i ∷ c) u = rising-drop n c (u .1)
+-- A row stands at some index.
+member-at : {i : Interval} (c : Cell) (z : Interval) → List·Memᴰ i c → (k : ℕ) × (k < length c) × (getD c k z ≡ i)
+member-at (j ∷ c) z (List·Memᴰ·head e) = (0, omega arith, sym e)
+member-at (j ∷ c) z (List·Memᴰ·tail m) = let r = member-at c z m in (suc (r .0), omega (arith, r .1), r .2)
 
-module _ {A : Type 0} (f : Interval → ℕ) (t : ℕ) (g : Cell → A) (pass : (i : Interval) (c : Cell) → f i < t → g (i ∷ c) ≡ g c) where
-  -- What passes over every row with its end below t is decided by the rows from the place on.
-  front-passed : (c : Cell) → g c ≡ g (drop (frontBelow f t c) c)
-  unfolding frontBelow
-  front-passed [] = refl
-  front-passed (i ∷ c) = go (front-passed c) (lt-outcome (f i) t)
+module _ (f : Interval → ℕ) (up : Follows f) where
+  -- In a rising cell the end of a later row is later.
+  pub rising-at : (c : Cell) (i k : ℕ) (z : Interval) → Rising c → i < k → k < length c → f (getD c i z) < f (getD c k z)
+  rising-at [] i k z u h l = absurd (omega arith)
+  rising-at (x ∷ c) i zero z u h l = absurd (omega arith)
+  rising-at (x ∷ c) zero (suc k) z u h l = up x (getD c k z) (rising-after x c u (getD-member c k z (omega arith)))
+  rising-at (x ∷ c) (suc i) (suc k) z u h l = rising-at c i k z (u .1) (omega arith) (omega arith)
+
+  -- The end of the same or a later row is no earlier.
+  not-before : (c : Cell) (i k : ℕ) (z : Interval) → Rising c → i ≤ k → k < length c → f (getD c i z) ≤ f (getD c k z)
+  not-before c i k z u h l = go (lt-outcome i k)
     where
-      go : {b : Bool} → g c ≡ g (drop (frontBelow f t c) c) → Outcome (f i < t) (t ≤ f i) b → g (i ∷ c) ≡ g (drop (cond b (suc (frontBelow f t c)) 0) (i ∷ c))
-      go r (holds h) = pass i c h ∙ r
-      go r (fails h) = refl
+      go : {b : Bool} → Outcome (i < k) (k ≤ i) b → f (getD c i z) ≤ f (getD c k z)
+      go (holds q) = let r = rising-at c i k z u q l in omega arith
+      go (fails q) = let e : i ≡ k = omega arith in le-of-eq (ap (λ (j : ℕ). f (getD c j z)) e)
 
-  -- Where no row is left, it is that of the empty cell.
-  pub front-over : (c : Cell) → length c ≤ frontBelow f t c → g c ≡ g []
-  front-over c l = front-passed c ∙ ap g (drop-of-length-le c l)
-
-  -- Else it is that of the row at the place and rows behind it.
-  pub front-first : (c : Cell) (d : Interval) → Rising c → frontBelow f t c < length c
-      → (r : Cell) × Rising (getD c (frontBelow f t c) d ∷ r) × (g c ≡ g (getD c (frontBelow f t c) d ∷ r))
-  front-first c d u l =
-      let e = drop-cons c (frontBelow f t c) d l in
-      (drop (suc (frontBelow f t c)) c, subst Rising e (rising-drop (frontBelow f t c) c u), front-passed c ∙ ap g e)
-
--- ---- the latest departure
-
-module _ (t : ℕ) where
-  -- Where every row arrives after t there is no departure.
-  latest-after : (c : Cell) → ((j : Interval) → List·Memᴰ j c → t < j .arrival) → latestDeparture c t ≡ none
-  unfolding latestDeparture
-  latest-after [] h = refl
-  latest-after (i ∷ c) h = rw (lt-leb (i .arrival) t (h i (List·Memᴰ·head refl))) (latest-after c (λ j m. h j (List·Memᴰ·tail m)))
-
-  -- Where no row at the front arrives by t there is no departure.
-  pub latest-none : (c : Cell) → Rising c → frontBelow arrivalEnd (t + 1) c ≡ 0 → latestDeparture c t ≡ none
-  unfolding frontBelow latestDeparture
-  latest-none [] u e = refl
-  latest-none (i ∷ c) u e = go (lt-outcome (i .arrival) (t + 1)) e
+module _ (t : ℕ) (c : Cell) (z : Interval) where
+  -- Where every row departs before t, no interval is asked for.
+  pub earliest-none : length c ≤ frontBelow departureEnd t c → earliestArriving c t ≡ none
+  earliest-none l = first-none (earliest-arriving t c) .1 each
     where
-      go : {b : Bool} → Outcome (i .arrival < t + 1) (t + 1 ≤ i .arrival) b → cond b (suc (frontBelow arrivalEnd (t + 1) c)) 0 ≡ 0
-          → latestDeparture (i ∷ c) t ≡ none
-      go (holds h) z = absurd (omega arith)
-      go (fails h) z = latest-after (i ∷ c) each
-        where
-          each : (j : Interval) → List·Memᴰ j (i ∷ c) → t < j .arrival
-          each j (List·Memᴰ·head q) = let a = arrival-path q in omega arith
-          each j (List·Memᴰ·tail m) = let r = rising-after i c u m in omega arith
+      each : (j : Interval) → List·Memᴰ j c → ¬ (t ≤ j .departure)
+      each j m h = let r = member-at c z m in omega (arith, r .1, front-le departureEnd t c (r .0) z (r .1) (rw (r .2) h))
 
-  -- Else it is that of the last row that arrives by t.
-  pub latest-some : (c : Cell) (k : ℕ) (d : Interval) → Rising c → frontBelow arrivalEnd (t + 1) c ≡ suc k
-      → latestDeparture c t ≡ some (getD c k d .departure)
-  unfolding frontBelow latestDeparture later
-  latest-some [] k d u e = absurd (omega arith)
-  latest-some (i ∷ c) k d u e = go (lt-outcome (i .arrival) (t + 1)) (λ n q. latest-some c n d (u .1) q) e
-    where
-      back : ((n : ℕ) → frontBelow arrivalEnd (t + 1) c ≡ suc n → latestDeparture c t ≡ some (getD c n d .departure))
-          → (k : ℕ) → frontBelow arrivalEnd (t + 1) c ≡ k → later (i .departure) (latestDeparture c t) ≡ some (getD (i ∷ c) k d .departure)
-      back ih zero q = rw (latest-none c (u .1) q) refl
-      back ih (suc k) q =
-          let m : List·Memᴰ (getD c k d) c = getD-member c k d (omega (arith, front-length arrivalEnd (t + 1) c)) in
-          let r = rising-after i c u m in
-          rw (ih k q) (ap some (omega arith))
+  module _ (u : Rising c) where
+    -- Else the earliest arriving is the first row that departs at or after t.
+    pub earliest-some : frontBelow departureEnd t c < length c → earliestArriving c t ≡ some (getD c (frontBelow departureEnd t c) z)
+    earliest-some l =
+        first-some (λ i j m n h k. one-arrival i j c u m n (omega arith)) (earliest-arriving t c) (getD c (frontBelow departureEnd t c) z) .1
+        (getD-member c (frontBelow departureEnd t c) z l, front-at departureEnd t c z l, each)
+      where
+        each : (j : Interval) → List·Memᴰ j c → t ≤ j .departure → getD c (frontBelow departureEnd t c) z .arrival ≤ j .arrival
+        each j m h =
+            let r = member-at c z m in
+            let p = front-le departureEnd t c (r .0) z (r .1) (rw (r .2) h) in
+            rw (r .2) at (not-before arrivalEnd arrival-follows c (frontBelow departureEnd t c) (r .0) z u p (r .1))
 
-      go : {b : Bool} → Outcome (i .arrival < t + 1) (t + 1 ≤ i .arrival) b
-          → ((n : ℕ) → frontBelow arrivalEnd (t + 1) c ≡ suc n → latestDeparture c t ≡ some (getD c n d .departure))
-          → cond b (suc (frontBelow arrivalEnd (t + 1) c)) 0 ≡ suc k
-          → latestDeparture (i ∷ c) t ≡ some (getD (i ∷ c) k d .departure)
-      go (holds h) ih z = rw (le-leb (i .arrival) t (omega arith)) (back ih k (omega arith))
-      go (fails h) ih z = absurd (omega arith)
+    -- Where no row at the front arrives by t, no interval is asked for.
+    pub latest-none : frontBelow arrivalEnd (t + 1) c ≡ 0 → latestDeparting c t ≡ none
+    latest-none e = first-none (latest-departing t c) .1 each
+      where
+        each : (j : Interval) → List·Memᴰ j c → ¬ (j .arrival ≤ t)
+        each j m h = let r = member-at c z m in omega (arith, front-gt arrivalEnd (t + 1) arrival-follows c (r .0) z u (r .1) (rw (r .2) (let k : j .arrival < t + 1 = omega arith in k)))
 
--- ---- the earliest arrival
+    -- Else the latest departing is the last row that arrives by t.
+    pub latest-some : (k : ℕ) → frontBelow arrivalEnd (t + 1) c ≡ suc k → latestDeparting c t ≡ some (getD c k z)
+    latest-some k e =
+        first-some (λ i j m n h l. one-departure i j c u m n (omega arith)) (latest-departing t c) (getD c k z) .1
+        (getD-member c k z inside, (let r = front-before arrivalEnd (t + 1) c k z (omega arith) in omega arith), each)
+      where
+        inside : k < length c
+        inside = omega (arith, front-length arrivalEnd (t + 1) c)
 
--- An arrival is the sooner where the other is not at it or before it.
-sooner-first : (b : ℕ) (o : Option ℕ) → ¬ NotAfter b o → sooner b o ≡ some b
-unfolding sooner
-sooner-first b none n = refl
-sooner-first b (some e) n = ap some (go (lt-outcome b e))
-  where
-    go : {q : Bool} → Outcome (b < e) (e ≤ b) q → min b e ≡ b
-    go (holds h) = omega arith
-    go (fails h) = absurd (n h)
-
-module _ (t : ℕ) where
-  -- Rows that depart before t do not count.
-  earliest-pass : (i : Interval) (c : Cell) → i .departure < t → earliestArrival (i ∷ c) t ≡ earliestArrival c t
-  unfolding earliestArrival
-  earliest-pass i c h = rw (lt-leb t (i .departure) h) refl
-
-  -- Of rising rows that depart at or after t the first arrives earliest.
-  earliest-at : (i : Interval) (c : Cell) → Rising (i ∷ c) → t ≤ i .departure → earliestArrival (i ∷ c) t ≡ some (i .arrival)
-  unfolding earliestArrival
-  earliest-at i c u h = rw (le-leb t (i .departure) h) (sooner-first (i .arrival) (earliestArrival c t) none-by)
-    where
-      none-by : ¬ NotAfter (i .arrival) (earliestArrival c t)
-      none-by n =
-          let v = covers-find (earliest-iff t (i .arrival) c .0 n) in
-          let r = rising-after i c u (v .1) in
-          omega (arith, v .2)
-
-  -- Where every row departs before t there is no arrival.
-  pub earliest-none : (c : Cell) → length c ≤ frontBelow departureEnd t c → earliestArrival c t ≡ none
-  unfolding earliestArrival
-  earliest-none c l = front-over departureEnd t (λ d. earliestArrival d t) earliest-pass c l
-
-  -- Else it is that of the first row that departs at or after t.
-  pub earliest-some : (c : Cell) (d : Interval) → Rising c → frontBelow departureEnd t c < length c
-      → earliestArrival c t ≡ some (getD c (frontBelow departureEnd t c) d .arrival)
-  earliest-some c d u l =
-      let r = front-first departureEnd t (λ d. earliestArrival d t) earliest-pass c d u l in
-      r .2 ∙ earliest-at _ (r .0) (r .1) (front-at departureEnd t c d l)
-
--- ---- an interval that stands in the cell
-
-module _ (i : Interval) where
-  -- Rows that all depart later than i are not i.
-  stands-after : (c : Cell) → ((j : Interval) → List·Memᴰ j c → i .departure < j .departure) → stands i c ≡ false
-  unfolding stands
-  stands-after [] h = refl
-  stands-after (j ∷ c) h =
-      let l : i .departure < j .departure = h j (List·Memᴰ·head refl) in
-      rw (ne-eqb (i .departure) (j .departure) (λ e. omega arith)) (stands-after c (λ k m. h k (List·Memᴰ·tail m)))
-
-  -- A row that departs before i is not i.
-  stands-pass : (j : Interval) (c : Cell) → j .departure < i .departure → stands i (j ∷ c) ≡ stands i c
-  unfolding stands
-  stands-pass j c h = rw (ne-eqb (i .departure) (j .departure) (λ e. omega arith)) refl
-
-  -- Of rising rows that depart at or after i only the first can be i.
-  stands-at : (j : Interval) (c : Cell) → Rising (j ∷ c) → i .departure ≤ j .departure → stands i (j ∷ c) ≡ sameInterval i j
-  unfolding stands
-  stands-at j c u h = rw (stands-after c (λ k n. let q = rising-after j c u n in omega arith)) (or-false (sameInterval i j))
-
-  -- Where every row departs before i, it does not stand there.
-  pub stands-none : (c : Cell) → length c ≤ frontBelow departureEnd (i .departure) c → stands i c ≡ false
-  unfolding stands
-  stands-none c l = front-over departureEnd (i .departure) (stands i) stands-pass c l
-
-  -- Else it stands there exactly when it is the first row that departs at or after it.
-  pub stands-some : (c : Cell) (d : Interval) → Rising c → frontBelow departureEnd (i .departure) c < length c
-      → stands i c ≡ sameInterval i (getD c (frontBelow departureEnd (i .departure) c) d)
-  stands-some c d u l =
-      let r = front-first departureEnd (i .departure) (stands i) stands-pass c d u l in
-      r .2 ∙ stands-at _ (r .0) (r .1) (front-at departureEnd (i .departure) c d l)
+        each : (j : Interval) → List·Memᴰ j c → j .arrival ≤ t → j .departure ≤ getD c k z .departure
+        each j m h =
+            let r = member-at c z m in
+            let p = front-gt arrivalEnd (t + 1) arrival-follows c (r .0) z u (r .1) (rw (r .2) (let q : j .arrival < t + 1 = omega arith in q)) in
+            rw (r .2) at (not-before departureEnd departure-follows c (r .0) k z u (omega arith) inside)

@@ -11,9 +11,11 @@ ghost use Rattle.rules.specs.Layout.{cellOf};
 ghost use Rattle.rules.specs.Adding.{stands};
 ghost use Rattle.rules.specs.Windows.{window, fitsWindow};
 ghost use Rattle.cells.specs.Stored.{RowsInUse, departureEnd, arrivalEnd, frontBelow, orZero};
+ghost use Rattle.cells.specs.Rows.{rowAt, firstDeparting, lastArriving};
+use rules::Ends;
 
 // The first of the rows that departs at or after t: the number of rows before it.
-pub fn lower_bound_departure(rows: &[u32], t: u32) -> usize
+fn lower_bound_departure(rows: &[u32], t: u32) -> usize
     requires { ⌜ Rising (map intervalOf (now rows)) ⌝ }
     ensures { λ r. ⌜ r ≡ frontBelow departureEnd t (map intervalOf (now (rows .entry))) ⌝ }
 {
@@ -31,7 +33,7 @@ pub fn lower_bound_departure(rows: &[u32], t: u32) -> usize
 }
 
 // The number of rows that arrive by t; they stand at the front.
-pub fn upper_bound_arrival(rows: &[u32], t: u32) -> usize
+fn upper_bound_arrival(rows: &[u32], t: u32) -> usize
     requires { ⌜ Rising (map intervalOf (now rows)) ⌝ }
     ensures { λ r. ⌜ r ≡ frontBelow arrivalEnd (t + 1) (map intervalOf (now (rows .entry))) ⌝ }
 {
@@ -48,6 +50,18 @@ pub fn upper_bound_arrival(rows: &[u32], t: u32) -> usize
     least
 }
 
+// A row of a cell: its number, counted from 0, and the two ends of its interval.
+pub struct Row {
+    pub index: usize,
+    pub ends: Ends,
+}
+
+// A row that was looked for, or that there is none.
+pub enum RowFound {
+    At(Row),
+    Nothing,
+}
+
 // The index in the cell after its rows in use.
 fn rows_end(cell: &[u32]) -> usize
     requires { ⌜ RowsInUse (now cell) ⌝ }
@@ -56,17 +70,57 @@ fn rows_end(cell: &[u32]) -> usize
     words::rows_of(cell[0]) as usize + 1
 }
 
+// Row `index` of the cell, or nothing where it has no such row.
+fn row_at(cell: &[u32], index: usize) -> RowFound
+    requires { ⌜ RowsInUse (now cell) ⌝ }
+    ensures { λ r. ⌜ r ≡ rowAt (cellOf (now (cell .entry))) index ⌝ }
+{
+    let rows = words::rows_of(cell[0]) as usize;
+    if rows <= index {
+        return RowFound::Nothing;
+    }
+    let at = index + 1;
+    RowFound::At(Row {
+        index: index,
+        ends: Ends {
+            departure: words::departure_of(cell[at]),
+            arrival: words::arrival_of(cell[at]),
+        },
+    })
+}
+
+// The first row of the cell that departs at or after t: its number and both its ends, or nothing.
+pub fn first_departing(cell: &[u32], t: u32) -> RowFound
+    requires { ⌜ RowsInUse (now cell) ⌝ }
+    ensures { λ r. ⌜ r ≡ firstDeparting (cellOf (now (cell .entry))) t ⌝ }
+{
+    let end = rows_end(cell);
+    row_at(cell, lower_bound_departure(&cell[1..end], t))
+}
+
+// The last row of the cell that arrives by t: its number and both its ends, or nothing.
+pub fn last_arriving(cell: &[u32], t: u32) -> RowFound
+    requires { ⌜ RowsInUse (now cell) ⌝ }
+    ensures { λ r. ⌜ r ≡ lastArriving (cellOf (now (cell .entry))) t ⌝ }
+{
+    let end = rows_end(cell);
+    let front = upper_bound_arrival(&cell[1..end], t);
+    if front == 0 {
+        return RowFound::Nothing;
+    }
+    row_at(cell, front - 1)
+}
+
 // The latest departure in the cell with arrival at most t, or 0 where there is none.
 pub fn latest_departure(cell: &[u32], t: u32) -> u32
     requires { ⌜ RowsInUse (now cell) ⌝ }
     ensures { λ r. ⌜ r ≡ orZero (latestDeparture (cellOf (now (cell .entry))) t) ⌝ }
 {
-    let end = rows_end(cell);
-    let last = upper_bound_arrival(&cell[1..end], t);
-    if last == 0 {
-        return 0;
+    let found = last_arriving(cell, t);
+    match found {
+        RowFound::At(row) => row.ends.departure,
+        RowFound::Nothing => 0,
     }
-    words::departure_of(cell[last])
 }
 
 // The earliest arrival in the cell with departure at least t, or 0 where there is none.
@@ -74,32 +128,23 @@ pub fn earliest_arrival(cell: &[u32], t: u32) -> u32
     requires { ⌜ RowsInUse (now cell) ⌝ }
     ensures { λ r. ⌜ r ≡ orZero (earliestArrival (cellOf (now (cell .entry))) t) ⌝ }
 {
-    let end = rows_end(cell);
-    let first = lower_bound_departure(&cell[1..end], t) + 1;
-    if first == end {
-        return 0;
+    let found = first_departing(cell, t);
+    match found {
+        RowFound::At(row) => row.ends.arrival,
+        RowFound::Nothing => 0,
     }
-    words::arrival_of(cell[first])
 }
 
-// Whether [d, a] stands in the cell.
+// Whether [d, a] stands in the cell: only the first row that departs at or after d can be it.
 pub fn stands(cell: &[u32], d: u32, a: u32) -> bool
     requires { ⌜ RowsInUse (now cell) ⌝ }
     ensures { λ r. ⌜ r ≡ stands (interval d a) (cellOf (now (cell .entry))) ⌝ }
 {
-    let end = rows_end(cell);
-    let at = lower_bound_departure(&cell[1..end], d) + 1;
-    if at == end {
-        return false;
+    let found = first_departing(cell, d);
+    match found {
+        RowFound::At(row) => d == row.ends.departure && a == row.ends.arrival,
+        RowFound::Nothing => false,
     }
-    let w = cell[at];
-    if words::departure_of(w) != d {
-        return false;
-    }
-    if words::arrival_of(w) != a {
-        return false;
-    }
-    true
 }
 
 // Whether the interval [departure, arrival] fits the window from `first` to `last`.
@@ -115,11 +160,9 @@ pub fn has_fitting(cell: &[u32], first: u32, last: u32) -> bool
     requires { ⌜ RowsInUse (now cell) ⌝ }
     ensures { λ r. ⌜ r ≡ hasInside (window first last) (cellOf (now (cell .entry))) ⌝ }
 {
-    let end = rows_end(cell);
-    let at = lower_bound_departure(&cell[1..end], first) + 1;
-    if at == end {
-        return false;
+    let found = first_departing(cell, first);
+    match found {
+        RowFound::At(row) => fits(row.ends.departure, row.ends.arrival, first, last),
+        RowFound::Nothing => false,
     }
-    let w = cell[at];
-    fits(words::departure_of(w), words::arrival_of(w), first, last)
 }

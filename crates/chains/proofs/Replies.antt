@@ -2,7 +2,7 @@
 use mathlib.Core.Path.{_≡_, refl, sym, ap, _∙_, subst}
 use mathlib.Core.Bool.{Bool, true, false, not}
 use mathlib.Core.Option.{Option, none, some}
-use mathlib.Core.List.{List, [], _∷_, _++_, map, append-assoc}
+use mathlib.Core.List.{List, [], _∷_, _++_, map, append-assoc, List·Memᴰ}
 use Prim.Native.Nat.{ℕ, suc, _+_, _-_, _≤_, _<_}
 use native.Mathlib.Numerals.{add-one}
 use native.Mathlib.Omega.{arith}
@@ -10,21 +10,27 @@ use lib.Dec.{leb}
 use lib.ListN.{length, getD, take, drop, set, length-map}
 use lib.Seq.{take-suc, drop-cons, set-at, length-take-le}
 use borrow.Author.Tests.{not-true, not-false}
-use Rattle.journeys.specs.Journey.{Contact, interval}
-use Rattle.journeys.specs.Cell.{latestDeparture, earliestArrival}
+use Rattle.journeys.specs.Journey.{Contact, Interval, interval}
+use Rattle.journeys.specs.Cell.{Rising, latestDeparting, earliestArriving, latestDeparture, earliestArrival}
+use Rattle.journeys.proofs.First.{first-member, earliest-arriving}
+use Rattle.journeys.proofs.Cover.{latest-itself}
 use Rattle.journeys.proofs.Tests.{never}
 use Rattle.words.specs.Words.{contactWord}
-use Rattle.rules.specs.Limits.{maxTicks, maxCellWords}
+use Rattle.rules.specs.Limits.{maxTicks}
 use Rattle.rules.specs.declared.ChainAnswer.the-variants.{Chain, NoJourney}
 use Rattle.rules.specs.Layout.{animals, cellsOf}
 use Rattle.rules.specs.Checks.{ValidTable}
 use Rattle.rules.specs.Windows.{fitsWindow}
 use Rattle.rules.specs.Chains.{chainFrom, chainOf, chainRefusal, chainAnswerOf, chainAnswer, chainWords, chainLeaves}
 use Rattle.rules.proofs.Sound.{table-sizes, passes-good}
-use Rattle.cells.specs.Stored.{orZero}
+use Rattle.cells.specs.declared.Row.{Row}
+use Rattle.cells.specs.declared.RowFound.{RowFound}
+use Rattle.cells.specs.declared.RowFound.the-variants.{At, Nothing}
+use Rattle.cells.specs.Rows.{firstDeparting, intervalFound}
+use Rattle.cells.proofs.Rows.{first-earliest}
 use Rattle.cell_checks.proofs.Checks.{stopped, passed}
-use Rattle.tables.proofs.Ticks.{Tick, tick-below, latest-tick, earliest-from-one, latest-from-one, tick-none, tick-some}
 use Rattle.chains.specs.Found.{wordsOf, collected}
+use Rattle.chains.proofs.Lending.{cell-rises}
 
 -- ---- the words written to the front
 
@@ -39,7 +45,7 @@ front-step ws B rows i v e h k f =
     ∙ sym (append-assoc (take i ws) (getD ws i 0 ∷ []) (drop (suc i) B))
     ∙ ap (λ (l : List ℕ). l ++ drop (suc i) B) (sym (take-suc ws i 0 h)))
 
--- ---- the chain from the cell's arrival and departure
+-- ---- the chain of the interval kept
 
 -- A chain not found is none.
 pub none-found : (f : Bool) (k : ℕ) (ws : List ℕ) (o : Option (List Contact)) → f ≡ false → o ≡ none → collected f k ws ≡ wordsOf o
@@ -51,50 +57,56 @@ pub none-collected : (f : Bool) (k : ℕ) (ws : List ℕ) (o : Option (List ℕ)
 unfolding collected
 none-collected f k ws o e h = rw e h
 
--- What is known with the arrival kept: b is the earliest arrival from u at v, or 0.
-pub record Kept (T : List ℕ) (u v first b : ℕ) : Type 0 where
+-- What is known with the row found: it is the first row of cell (u, v) that departs at or after first.
+pub record Kept (T : List ℕ) (u v first : ℕ) (f : RowFound) : Type 0 where
   pub valid : ValidTable T
   pub from-below : u < animals T
   pub to-below : v < animals T
-  pub arrives : b ≡ orZero (earliestArrival (cellsOf T u v) first)
+  pub row-is : f ≡ firstDeparting (cellsOf T u v) first
 
-module _ {T : List ℕ} {u v first b : ℕ} (k : Kept T u v first b) (last : ℕ) where
-  -- No arrival: no chain.
-  pub none-arrives : b ≡ 0 → chainOf T u v first last ≡ none
-  unfolding chainOf
-  none-arrives z = rw (tick-none (earliestArrival (cellsOf T u v) first) b (earliest-from-one T (k .valid) u v (k .from-below) (k .to-below) first) (k .arrives) z) refl
+module _ {T : List ℕ} {u v first : ℕ} {f : RowFound} (k : Kept T u v first f) (last : ℕ) where
+  -- The pair's cell rises.
+  rises : Rising (cellsOf T u v)
+  rises = cell-rises T (k .valid) u v (k .from-below) (k .to-below)
 
-  module _ (n : b ≡ 0 → ⊥) {d : ℕ} (f : d ≡ orZero (latestDeparture (cellsOf T u v) b)) where
-    -- The arrival.
-    arrival-is : earliestArrival (cellsOf T u v) first ≡ some b
-    arrival-is = tick-some (earliestArrival (cellsOf T u v) first) b (k .arrives) n
+  -- The row found has the earliest arriving interval.
+  earliest-is : {g : RowFound} → f ≡ g → earliestArriving (cellsOf T u v) first ≡ intervalFound g
+  earliest-is q = sym (first-earliest (cellsOf T u v) first rises) ∙ ap intervalFound (sym (k .row-is) ∙ q)
 
-    -- No departure: no chain.
-    pub none-departs : d ≡ 0 → chainOf T u v first last ≡ none
-    unfolding chainOf
-    none-departs z = rw (arrival-is, tick-none (latestDeparture (cellsOf T u v) b) d (latest-from-one T (k .valid) u v (k .from-below) (k .to-below) b) f z) refl
+  -- No row: no chain.
+  pub none-departs : f ≡ Nothing → chainOf T u v first last ≡ none
+  unfolding chainOf earliestArrival
+  none-departs q = rw (earliest-is q) refl
 
-    module _ (z : d ≡ 0 → ⊥) {t : Bool} (q : t ≡ fitsWindow (interval d b) first last) where
-      -- The departure.
-      departure-is : latestDeparture (cellsOf T u v) b ≡ some d
-      departure-is = tick-some (latestDeparture (cellsOf T u v) b) d f z
+  module _ {row : Row} (q : f ≡ At row) where
+    abbrev kept : Interval
+    kept = interval (row .ends .departure) (row .ends .arrival)
 
+    -- Its interval stands in the cell.
+    member : List·Memᴰ kept (cellsOf T u v)
+    member = first-member (earliest-arriving first (cellsOf T u v)) (earliest-is q)
+
+    -- Of those that arrive by its arrival it departs latest.
+    latest-is : latestDeparting (cellsOf T u v) (row .ends .arrival) ≡ some kept
+    latest-is = latest-itself kept (cellsOf T u v) rises member
+
+    module _ {t : Bool} (w : t ≡ fitsWindow (interval (row .ends .departure) (row .ends .arrival)) first last) where
       -- The interval kept does not fit: no chain.
       pub none-fits : not t ≡ true → chainOf T u v first last ≡ none
-      unfolding chainOf
-      none-fits h = rw (arrival-is, departure-is, stopped q h) refl
+      unfolding chainOf earliestArrival latestDeparture
+      none-fits h = rw (earliest-is q, latest-is, stopped w h) refl
 
-      -- Else it is the chain from u at that departure.
-      pub departs : not t ≡ false → {o : Option (List ℕ)} → o ≡ wordsOf (chainFrom T v b (animals T - 1) u d) → o ≡ wordsOf (chainOf T u v first last)
-      unfolding chainOf
-      departs h e = rw (arrival-is, departure-is, passed q h) e
+      -- Else it is the chain from u at its departure.
+      pub departs : not t ≡ false → {o : Option (List ℕ)} → o ≡ wordsOf (chainFrom T v (row .ends .arrival) (animals T - 1) u (row .ends .departure)) → o ≡ wordsOf (chainOf T u v first last)
+      unfolding chainOf earliestArrival latestDeparture
+      departs h e = rw (earliest-is q, latest-is, passed w h) e
 
-  -- The departure is a tick of the table.
-  pub departs-by : {d : ℕ} → d ≡ orZero (latestDeparture (cellsOf T u v) b) → d ≤ maxTicks
-  departs-by {d} f =
-      let z = table-sizes T in
-      let t : Tick maxCellWords (latestDeparture (cellsOf T u v) b) = latest-tick maxCellWords b (cellsOf T u v) (λ i q. let m = passes-good T (k .valid) .cells u v (k .from-below) (k .to-below) .limits i q in omega (arith, m .departs, m .in-time, z .τ-high)) in
-      omega (arith, tick-below maxCellWords (latestDeparture (cellsOf T u v) b) (omega arith) t)
+    -- The departure is a tick of the table.
+    pub departs-by : (1 ≤ row .ends .departure) × (row .ends .departure ≤ maxTicks)
+    departs-by =
+        let z = table-sizes T in
+        let m = passes-good T (k .valid) .cells u v (k .from-below) (k .to-below) .limits kept member in
+        omega (arith, m .departs, m .in-time, z .τ-high)
 
 -- ---- the answer
 

@@ -11,6 +11,7 @@ ghost use Rattle.rules.specs.Layout.{animals};
 ghost use Rattle.rules.specs.Checks.{ValidTable};
 ghost use Rattle.rules.specs.Chains.{chainOf, chainAnswer, chainLeaves};
 ghost use Rattle.chains.specs.Found.{wordsOf, collected};
+use cells::RowFound;
 use checks::Verdict;
 use rules::ChainAnswer;
 use steps::Steps;
@@ -26,25 +27,24 @@ fn write_front(buffer: &mut [u32], from: [u32; Opening::MAX_CHAIN], count: usize
     }
 }
 
-// The chain from u to v in the window, on a table that passed its checks.
+// The chain from u to v in the window, on a table that passed its checks. The interval kept is that of the first row which
+// departs in the window.
 fn find(table: &[u32], u: u32, v: u32, first: u32, last: u32) -> Steps
     requires { ⌜ ValidTable (now table) ⌝ }
     requires { ⌜ (u < animals (now table)) × (v < animals (now table)) ⌝ }
     ensures { λ r. ⌜ collected (r .found) (r .count) (r .words) ≡ wordsOf (chainOf (now (table .entry)) u v first last) ⌝ }
     ensures { λ r. ⌜ (r .count < animals (now (table .entry))) × (length (r .words) ≡ maxChain) ⌝ }
 {
-    let arrival = pair_cells::first_arrival(table, u, v, first);
-    if arrival == 0 {
-        return steps::none();
+    let found = pair_cells::first_departing(table, u, v, first);
+    match found {
+        RowFound::At(row) => {
+            if !cells::fits(row.ends.departure, row.ends.arrival, first, last) {
+                return steps::none();
+            }
+            steps::collect(table, v, row.ends.arrival, u, row.ends.departure)
+        }
+        RowFound::Nothing => steps::none(),
     }
-    let departure = pair_cells::last_departure(table, u, v, arrival);
-    if departure == 0 {
-        return steps::none();
-    }
-    if !cells::fits(departure, arrival, first, last) {
-        return steps::none();
-    }
-    steps::collect(table, v, arrival, u, departure)
 }
 
 // Writes the contact words of the chain from u to v in the window to the front of the buffer, and answers their number;

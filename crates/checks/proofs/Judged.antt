@@ -20,6 +20,7 @@ use Rattle.rules.specs.Windows.{lastArrival, windowInRange, inOrder, ensureWind
 use Rattle.rules.specs.Questions.{ensureAnimal}
 use Rattle.rules.proofs.Folds.{and-left, and-right}
 use Rattle.rules.proofs.Judged.{ensure-iff}
+use Rattle.rules.proofs.Asked.{valid-behind, PairOf, pair-behind}
 use Rattle.checks.specs.declared.Verdict.{Verdict}
 use Rattle.checks.specs.declared.Verdict.the-variants.{Passed, Refused}
 use Rattle.checks.specs.Verdicts.{verdictOf, andThen}
@@ -96,13 +97,6 @@ chained {f} g o {a} {w} {r} p q e = e ∙ ap (λ (x : Verdict). andThen x w) p �
 
 -- ---- what a call that is not refused may rely on
 
--- Where nothing is refused, the table passed 5 and 6, and nothing is refused behind them.
-pub valid-behind : (T : List ℕ) {o : Option Refusal} → ensureTable T o ≡ none → ValidTable T × (o ≡ none)
-valid-behind T {o} e =
-    let a = ensure-iff (isOpen T) NotOpen (ensure (wellFormed T) NotWellFormed o) .0 e in
-    let b = ensure-iff (wellFormed T) NotWellFormed o .0 (a .1) in
-    (record { opens = a .0; formed = b .0 }, b .1)
-
 -- On a table that passed 5 and 6, the checks are those behind them.
 pub behind-valid : (T : List ℕ) → ValidTable T → (o : Option Refusal) → ensureTable T o ≡ o
 behind-valid T p o = rw (p .opens, p .formed) refl
@@ -110,26 +104,6 @@ behind-valid T p o = rw (p .opens, p .formed) refl
 -- A table that was judged passed is valid.
 pub table-valid : (T : List ℕ) {v : Verdict} → v ≡ verdictOf (ensureTable T none) → v ≡ Passed → ValidTable T
 table-valid T p q = valid-behind T (verdict-passed p q) .0
-
--- Two animals of a valid table.
-pub record PairOf (T : List ℕ) (u v : ℕ) : Type 0 where
-  pub valid : ValidTable T
-  pub from-below : u < animals T
-  pub to-below : v < animals T
-
--- Where nothing is refused, the two are animals of a valid table, and nothing is refused behind their check.
-pub pair-behind : (T : List ℕ) (u v : ℕ) {o : Option Refusal} → ensureTable T (ensurePair T u v o) ≡ none → PairOf T u v × (o ≡ none)
-pair-behind T u v {o} e =
-    let p = valid-behind T e in
-    let q = ensure-iff (ltb u (animals T) && ltb v (animals T)) NoSuchAnimal (ensure (not (eqb u v)) SameAnimal o) .0 (p .1) in
-    let s = ensure-iff (not (eqb u v)) SameAnimal o .0 (q .1) in (
-      record {
-        valid = p .0;
-        from-below = ltb-true u (animals T) (and-left (ltb u (animals T)) (ltb v (animals T)) (q .0));
-        to-below = ltb-true v (animals T) (and-right (ltb u (animals T)) (ltb v (animals T)) (q .0));
-      },
-      s .1,
-    )
 
 -- Where nothing is refused, the animal is one of a valid table.
 pub animal-behind : (T : List ℕ) (u : ℕ) (o : Option Refusal) → ensureTable T (ensureAnimal T u o) ≡ none → ValidTable T × (u < animals T)

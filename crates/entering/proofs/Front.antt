@@ -9,9 +9,8 @@ use lib.ListN.{length, getD}
 use Rattle.journeys.specs.Journey.{Interval}
 use Rattle.journeys.specs.Cell.{Cell, Rising}
 use Rattle.journeys.proofs.Tests.{Outcome, holds, fails, lt-outcome}
-use Rattle.journeys.proofs.Cover.{rising-after}
 use Rattle.cells.specs.Stored.{frontBelow}
-use Rattle.cells.proofs.Search.{Follows, getD-member, front-length, front-le, front-before, front-at, front-gt}
+use Rattle.cells.proofs.Search.{Follows, front-length, front-le, front-before, front-at, front-gt, rising-at}
 
 -- A number is below another, or the other is at most it.
 pub lt-or-ge : (k i : ℕ) → (k < i) ⊎ (i ≤ k)
@@ -22,19 +21,12 @@ lt-or-ge k i = go (lt-outcome k i)
     go (fails h) = inr h
 
 module _ (f : Interval → ℕ) (up : Follows f) where
-  -- In a rising cell the end of a later row is later.
-  pub rising-at : (c : Cell) (i k : ℕ) (z : Interval) → Rising c → i < k → k < length c → f (getD c i z) < f (getD c k z)
-  rising-at [] i k z u h l = absurd (omega arith)
-  rising-at (x ∷ c) i zero z u h l = absurd (omega arith)
-  rising-at (x ∷ c) zero (suc k) z u h l = up x (getD c k z) (rising-after x c u (getD-member c k z (omega arith)))
-  rising-at (x ∷ c) (suc i) (suc k) z u h l = rising-at c i k z (u .1) (omega arith) (omega arith)
-
   -- Behind a row whose end is t or later, no row has its end below t.
   pub front-behind : (t : ℕ) (i : Interval) (c : Cell) → Rising (i ∷ c) → t ≤ f i → frontBelow f t c ≡ 0
   unfolding frontBelow
   front-behind t i [] u h = refl
   front-behind t i (j ∷ c) u h =
-      let r = rising-at (i ∷ j ∷ c) 0 1 i u (omega arith) (omega arith) in
+      let r = rising-at f up (i ∷ j ∷ c) 0 1 i u (omega arith) (omega arith) in
       omega (arith, front-le f t (j ∷ c) 0 i (omega arith) (omega arith))
 
   module _ (t : ℕ) (c : Cell) (z : Interval) (u : Rising c) where
@@ -58,7 +50,7 @@ module _ (f : Interval → ℕ) (up : Follows f) where
 
         upper : frontBelow f (t + 1) c ≤ i + 1
         upper =
-            ⊎-elim (λ q. front-le f (t + 1) c (i + 1) z q (omega (arith, rising-at c i (i + 1) z u (omega arith) q)))
+            ⊎-elim (λ q. front-le f (t + 1) c (i + 1) z q (omega (arith, rising-at f up c i (i + 1) z u (omega arith) q)))
             (λ q. omega (arith, front-length f (t + 1) c))
             (lt-or-ge (i + 1) (length c))
 

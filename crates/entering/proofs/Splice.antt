@@ -2,21 +2,18 @@
 use Prim.Native.Nat.{ℕ, suc, _+_, _≤_, _<_}
 use mathlib.Core.Path.{_≡_, refl, sym, ap, _∙_}
 use mathlib.Core.Logic.{_⊎_, inl, inr, ⊎-elim}
-use mathlib.Core.Bool.{Bool, true, false, cond, _||_, and-false}
-use mathlib.Core.List.{List, [], _∷_, map, List·Memᴰ, List·Memᴰ·head, List·Memᴰ·tail}
+use mathlib.Core.Bool.{Bool, true, false, cond}
+use mathlib.Core.List.{[], _∷_, List·Memᴰ, List·Memᴰ·head, List·Memᴰ·tail}
 use native.Mathlib.Omega.{arith}
-use lib.ListN.{length, getD, length-map, List·getD-map}
-use lib.Dec.{leb}
-use borrow.Author.Tests.{le-leb, lt-leb}
-use Rattle.journeys.specs.Journey.{Interval, interval, Inside}
+use lib.ListN.{length, getD}
+use Rattle.journeys.specs.Journey.{Interval, Inside}
 use Rattle.journeys.specs.Cell.{Cell, Before, Rising, hasInside, withoutContaining, putInOrder, enter}
 use Rattle.journeys.proofs.Tests.{Outcome, holds, fails, le-outcome, lt-outcome, inside-outcome}
-use Rattle.journeys.proofs.Cover.{Covers, here, there, rising-after, departure-path, hasInside-outcome}
-use Rattle.words.specs.Words.{intervalOf}
+use Rattle.journeys.proofs.Cover.{Covers, here, there, member-covers, hasInside-outcome}
 use Rattle.cells.specs.Stored.{departureEnd, arrivalEnd, frontBelow}
 use Rattle.entering.specs.Rows.{spliced}
-use Rattle.cells.proofs.Search.{departure-follows, arrival-follows, front-length, front-le, front-at, front-over, front-first}
-use Rattle.entering.proofs.Front.{lt-or-ge, front-behind, past-same, past-other, past-none}
+use Rattle.cells.proofs.Search.{arrival-follows, getD-member, front-length, front-le, front-at}
+use Rattle.entering.proofs.Front.{lt-or-ge, front-behind}
 
 -- ---- the rows that contain an interval
 
@@ -102,55 +99,19 @@ pub enter-same : (i : Interval) (c : Cell) → hasInside i c ≡ true → enter 
 unfolding enter
 enter-same i c e = rw e refl
 
--- ---- an interval inside
-
--- A row that departs before i does not lie inside it.
-inside-pass : (i j : Interval) (c : Cell) → j .departure < i .departure → hasInside i (j ∷ c) ≡ hasInside i c
-unfolding hasInside
-inside-pass i j c h = rw (lt-leb (i .departure) (j .departure) h) refl
-
--- Rows that arrive after i do not lie inside it.
-inside-after : (i : Interval) (c : Cell) → ((j : Interval) → List·Memᴰ j c → i .arrival < j .arrival) → hasInside i c ≡ false
-unfolding hasInside
-inside-after i [] h = refl
-inside-after i (j ∷ c) h =
-    rw (lt-leb (j .arrival) (i .arrival) (h j (List·Memᴰ·head refl)), and-false (leb (i .departure) (j .departure)))
-    (inside-after i c (λ k m. h k (List·Memᴰ·tail m)))
-
--- Of rising rows that depart at or after i, one lies inside it exactly when the first does.
-inside-first : (i j : Interval) (c : Cell) → Rising (j ∷ c) → i .departure ≤ j .departure → hasInside i (j ∷ c) ≡ leb (j .arrival) (i .arrival)
-unfolding hasInside
-inside-first i j c u h = rw (le-leb (i .departure) (j .departure) h) (go (le-outcome (j .arrival) (i .arrival)))
+-- Where none lies inside i, the rows that depart at or after it arrive after it.
+pub arrive-le : (i : Interval) (c : Cell) (z : Interval) → Rising c → hasInside i c ≡ false → frontBelow arrivalEnd (i .arrival) c ≤ frontBelow departureEnd (i .departure) c
+arrive-le i c z u e = ⊎-elim later (λ l. omega (arith, front-length arrivalEnd (i .arrival) c)) (lt-or-ge k (length c))
   where
-    go : {b : Bool} → Outcome (j .arrival ≤ i .arrival) (i .arrival < j .arrival) b → (b || hasInside i c) ≡ b
-    go (holds k) = refl
-    go (fails k) = inside-after i c (λ l m. let r = rising-after j c u m in omega arith)
+    k : ℕ
+    k = frontBelow departureEnd (i .departure) c
 
-module _ (i : Interval) (c : Cell) (z : Interval) where
-  -- Where every row departs before i, none lies inside it.
-  pub inside-none : length c ≤ frontBelow departureEnd (i .departure) c → hasInside i c ≡ false
-  unfolding hasInside
-  inside-none h = front-over departureEnd (i .departure) (hasInside i) (inside-pass i) c h
-
-  module _ (u : Rising c) where
-    -- Else one lies inside it exactly when the first row that departs at or after it arrives by it.
-    pub inside-at : frontBelow departureEnd (i .departure) c < length c
-        → hasInside i c ≡ leb (getD c (frontBelow departureEnd (i .departure) c) z .arrival) (i .arrival)
-    inside-at l =
-        let r = front-first departureEnd (i .departure) (hasInside i) (inside-pass i) c z u l in
-        r .2 ∙ inside-first i _ (r .0) (r .1) (front-at departureEnd (i .departure) c z l)
-
-    -- Where none lies inside i, the rows that depart at or after it arrive after it.
-    pub arrive-le : hasInside i c ≡ false → frontBelow arrivalEnd (i .arrival) c ≤ frontBelow departureEnd (i .departure) c
-    arrive-le e = ⊎-elim later (λ l. omega (arith, front-length arrivalEnd (i .arrival) c)) (lt-or-ge k (length c))
+    later : k < length c → frontBelow arrivalEnd (i .arrival) c ≤ k
+    later l = go (le-outcome (getD c k z .arrival) (i .arrival))
       where
-        k : ℕ
-        k = frontBelow departureEnd (i .departure) c
-
-        later : k < length c → frontBelow arrivalEnd (i .arrival) c ≤ k
-        later l =
-            let h : i .arrival < getD c k z .arrival = failed (le-outcome (getD c k z .arrival) (i .arrival)) (sym (inside-at l) ∙ e) in
-            front-le arrivalEnd (i .arrival) c k z l (omega arith)
+        go : {b : Bool} → Outcome (getD c k z .arrival ≤ i .arrival) (i .arrival < getD c k z .arrival) b → frontBelow arrivalEnd (i .arrival) c ≤ k
+        go (holds h) = absurd (failed (hasInside-outcome i c) e (member-covers (getD-member c k z l) (front-at departureEnd (i .departure) c z l, h)))
+        go (fails h) = front-le arrivalEnd (i .arrival) c k z l (omega arith)
 
 -- ---- rows suffice
 
@@ -166,38 +127,3 @@ rows-within τ (i ∷ c) u f =
     let r = rows-from τ i c u (λ j m. f j m .1) in
     let l = f i (List·Memᴰ·head refl) in
     omega (arith, l .0)
-
--- ---- rows of words
-
-module _ (d : ℕ) (rows : List ℕ) (k : ℕ) (e : k ≡ frontBelow departureEnd d (map intervalOf rows)) where
-  -- Where every row departs before d, none lies inside [d, a].
-  pub rows-inside-none : (a : ℕ) → length rows ≤ k → hasInside (interval d a) (map intervalOf rows) ≡ false
-  rows-inside-none a l = inside-none (interval d a) (map intervalOf rows) (intervalOf 0) (omega (arith, length-map rows intervalOf))
-
-  module _ (u : Rising (map intervalOf rows)) where
-    -- Else one lies inside it exactly when the first row that departs at or after d arrives by a.
-    pub rows-inside-at : (a : ℕ) → k < length rows → hasInside (interval d a) (map intervalOf rows) ≡ leb (intervalOf (getD rows k 0) .arrival) a
-    rows-inside-at a l =
-        inside-at (interval d a) (map intervalOf rows) (intervalOf 0) u (omega (arith, length-map rows intervalOf))
-        ∙ ap (λ (m : ℕ). leb (getD (map intervalOf rows) m (intervalOf 0) .arrival) a) (sym e)
-        ∙ ap (λ (j : Interval). leb (j .arrival) a) (List·getD-map intervalOf rows k 0)
-
-    -- The departure of the first row that departs at or after d.
-    first-departs : getD (map intervalOf rows) (frontBelow departureEnd d (map intervalOf rows)) (intervalOf 0) .departure
-        ≡ intervalOf (getD rows k 0) .departure
-    first-departs = ap (λ (m : ℕ). getD (map intervalOf rows) m (intervalOf 0) .departure) (sym e) ∙ departure-path (List·getD-map intervalOf rows k 0)
-
-    -- Where that row departs at d, the next is the first that departs after d.
-    pub rows-past-same : k < length rows → intervalOf (getD rows k 0) .departure ≡ d → k + 1 ≡ frontBelow departureEnd (d + 1) (map intervalOf rows)
-    rows-past-same l h =
-        ap (λ (m : ℕ). m + 1) e
-        ∙ past-same departureEnd departure-follows d (map intervalOf rows) (intervalOf 0) u (omega (arith, length-map rows intervalOf)) (first-departs ∙ h)
-
-    -- Else it is itself the first that departs after d.
-    pub rows-past-other : k < length rows → (intervalOf (getD rows k 0) .departure ≡ d → ⊥) → k ≡ frontBelow departureEnd (d + 1) (map intervalOf rows)
-    rows-past-other l n =
-        e ∙ past-other departureEnd departure-follows d (map intervalOf rows) (intervalOf 0) u (omega (arith, length-map rows intervalOf)) (λ h. n (sym first-departs ∙ h))
-
-    -- Where no row departs at or after d, none departs after d.
-    pub rows-past-none : length rows ≤ k → k ≡ frontBelow departureEnd (d + 1) (map intervalOf rows)
-    rows-past-none l = e ∙ past-none departureEnd departure-follows d (map intervalOf rows) (intervalOf 0) u (omega (arith, length-map rows intervalOf))

@@ -20,8 +20,7 @@ pub fn enters(cell: &mut [u32], d: u32, a: u32) -> bool
     ensures { λ _. ⌜ now (cell .exit) ≡ cellWords (length (now (cell .entry)) - 1) (enter (interval d a) (cellOf (now (cell .entry)))) ⌝ }
 {
     let n = words::rows_of(cell[0]) as usize;
-    let end = n + 1;
-    let slot = places::find(&cell[1..end], d, a);
+    let slot = places::find(cell, d, a);
     if slot.met {
         return false;
     }

@@ -2,53 +2,27 @@
 ghost use mathlib.Core.Path.{_≡_};
 ghost use mathlib.Core.Bool.{false};
 ghost use Prim.Native.Nat.{_+_, _≤_};
-ghost use mathlib.Core.List.{map};
 ghost use lib.ListN.{length};
 ghost use Rattle.journeys.specs.Journey.{interval};
-ghost use Rattle.journeys.specs.Cell.{Rising, hasInside};
-ghost use Rattle.words.specs.Words.{intervalOf};
-ghost use Rattle.cells.specs.Stored.{departureEnd, arrivalEnd, frontBelow};
+ghost use Rattle.journeys.specs.Cell.{hasInside};
+ghost use Rattle.rules.specs.Layout.{cellOf};
+ghost use Rattle.cells.specs.Stored.{RowsInUse, departureEnd, arrivalEnd, frontBelow};
+use cells::RowFound;
 
-// Whether a row lies inside [d, a] or equals it; i is the first row that departs at or after d.
-fn has_inside(rows: &[u32], i: usize, d: u32, a: u32) -> bool
-    requires { ⌜ i ≡ frontBelow departureEnd d (map intervalOf (now rows)) ⌝ }
-    requires { ⌜ Rising (map intervalOf (now rows)) ⌝ }
-    ensures { λ r. ⌜ r ≡ hasInside (interval d a) (map intervalOf (now (rows .entry))) ⌝ }
-{
-    if i < rows.len() {
-        return words::arrival_of(rows[i]) <= a;
-    }
-    false
-}
-
-// The first row that arrives at or after a; those from i on do.
-fn first_arriving(rows: &[u32], i: usize, a: u32) -> usize
-    requires { ⌜ (frontBelow arrivalEnd a (map intervalOf (now rows)) ≤ i) × (i ≤ length (now rows)) ⌝ }
-    requires { ⌜ Rising (map intervalOf (now rows)) ⌝ }
-    ensures { λ r. ⌜ r ≡ frontBelow arrivalEnd a (map intervalOf (now (rows .entry))) ⌝ }
+// The number of the first row that arrives at or after a; those from row i on do.
+fn first_arriving(cell: &[u32], i: usize, a: u32) -> usize
+    requires { ⌜ RowsInUse (now cell) ⌝ }
+    requires { ⌜ (frontBelow arrivalEnd a (cellOf (now cell)) ≤ i) × (i ≤ length (cellOf (now cell))) ⌝ }
+    ensures { λ r. ⌜ r ≡ frontBelow arrivalEnd a (cellOf (now (cell .entry))) ⌝ }
 {
     let mut lo = i;
     while 0 < lo {
-        if words::arrival_of(rows[lo - 1]) < a {
+        if words::arrival_of(cell[lo]) < a {
             return lo;
         }
         lo -= 1;
     }
     lo
-}
-
-// The first row that departs after d; i is the first that departs at or after d.
-fn first_past(rows: &[u32], i: usize, d: u32) -> usize
-    requires { ⌜ i ≡ frontBelow departureEnd d (map intervalOf (now rows)) ⌝ }
-    requires { ⌜ Rising (map intervalOf (now rows)) ⌝ }
-    ensures { λ r. ⌜ r ≡ frontBelow departureEnd (d + 1) (map intervalOf (now (rows .entry))) ⌝ }
-{
-    if i < rows.len() {
-        if words::departure_of(rows[i]) == d {
-            return i + 1;
-        }
-    }
-    i
 }
 
 // Where an interval goes: in the place of the rows from lo to hi - 1; or nowhere, since a row lies inside it.
@@ -58,21 +32,44 @@ pub(crate) struct Slot {
     pub hi: usize,
 }
 
-// Where [d, a] goes among the rows.
-pub(crate) fn find(rows: &[u32], d: u32, a: u32) -> Slot
-    requires { ⌜ Rising (map intervalOf (now rows)) ⌝ }
-    ensures { λ s. ⌜ s .met ≡ hasInside (interval d a) (map intervalOf (now (rows .entry))) ⌝ }
-    ensures { λ s. ⌜ (s .met ≡ false → (s .lo ≡ frontBelow arrivalEnd a (map intervalOf (now (rows .entry)))) × (s .hi ≡ frontBelow departureEnd (d + 1) (map intervalOf (now (rows .entry))))) ⌝ }
+// Where [d, a] goes among the rows of the cell.
+pub(crate) fn find(cell: &[u32], d: u32, a: u32) -> Slot
+    requires { ⌜ RowsInUse (now cell) ⌝ }
+    ensures { λ s. ⌜ s .met ≡ hasInside (interval d a) (cellOf (now (cell .entry))) ⌝ }
+    ensures { λ s. ⌜ (s .met ≡ false → (s .lo ≡ frontBelow arrivalEnd a (cellOf (now (cell .entry)))) × (s .hi ≡ frontBelow departureEnd (d + 1) (cellOf (now (cell .entry))))) ⌝ }
 {
-    let i = cells::lower_bound_departure(rows, d);
-    if has_inside(rows, i, d, a) {
-        return Slot {
-            met: true,
-            lo: 0,
-            hi: 0,
-        };
+    let found = cells::first_departing(cell, d);
+    match found {
+        RowFound::Nothing => {
+            let n = words::rows_of(cell[0]) as usize;
+            Slot {
+                met: false,
+                lo: first_arriving(cell, n, a),
+                hi: n,
+            }
+        }
+        RowFound::At(row) => {
+            if row.ends.arrival <= a {
+                return Slot {
+                    met: true,
+                    lo: 0,
+                    hi: 0,
+                };
+            }
+            let index = row.index;
+            let lo = first_arriving(cell, index, a);
+            if row.ends.departure == d {
+                return Slot {
+                    met: false,
+                    lo,
+                    hi: index + 1,
+                };
+            }
+            Slot {
+                met: false,
+                lo,
+                hi: index,
+            }
+        }
     }
-    let lo = first_arriving(rows, i, a);
-    let hi = first_past(rows, i, d);
-    Slot { met: false, lo, hi }
 }

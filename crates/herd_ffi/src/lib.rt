@@ -2,7 +2,7 @@
 // 32 bits say which answer, the lower 32 its number: 0 is a refusal with its number; 1 and 2 are the answers of the call.
 ghost use mathlib.Core.Path.{_≡_};
 ghost use Rattle.journeys.specs.Journey.{contact};
-ghost use Rattle.rules.specs.Answers.{openReply, addReply, writeReply, readReply, askReply, tickReply, setReply, chainReply};
+ghost use Rattle.rules.specs.Answers.{openReply, addReply, writeReply, readReply, askReply, intervalReply, setReply, chainReply};
 ghost use Rattle.rules.specs.Opening.{openAnswer, openLeaves};
 ghost use Rattle.rules.specs.Adding.{addAnswer, addLeaves};
 ghost use Rattle.rules.specs.Logs.{writeAnswer, writeLeaves};
@@ -71,21 +71,22 @@ pub extern "C" fn herd_chain(
     replies::of_chain(chains::chain(table, u, v, first, last, buffer))
 }
 
-// Asks for the earliest arrival from u at v of a journey that departs at or after `first`: 1 found, with the tick, 2 none,
-// 0 refused.
+// Asks for the interval from u to v with the earliest arrival, of those that depart at or after `first`: 1 found, with
+// departure · 2¹⁶ + arrival, 2 none, 0 refused.
 #[no_mangle]
 pub extern "C" fn herd_earliest(table: &[u32], u: u32, v: u32, first: u32) -> u64
-    ensures { λ r. ⌜ r ≡ tickReply (earliestAnswer (now (table .entry)) u v first) ⌝ }
+    ensures { λ r. ⌜ r ≡ intervalReply (earliestAnswer (now (table .entry)) u v first) ⌝ }
 {
-    replies::of_tick(questions::earliest(table, u, v, first))
+    replies::of_interval(questions::earliest(table, u, v, first))
 }
 
-// Asks for the latest departure from u of a journey that arrives at v by `last`: 1 found, with the tick, 2 none, 0 refused.
+// Asks for the interval from u to v with the latest departure, of those that arrive by `last`: 1 found, with
+// departure · 2¹⁶ + arrival, 2 none, 0 refused.
 #[no_mangle]
 pub extern "C" fn herd_latest(table: &[u32], u: u32, v: u32, last: u32) -> u64
-    ensures { λ r. ⌜ r ≡ tickReply (latestAnswer (now (table .entry)) u v last) ⌝ }
+    ensures { λ r. ⌜ r ≡ intervalReply (latestAnswer (now (table .entry)) u v last) ⌝ }
 {
-    replies::of_tick(questions::latest(table, u, v, last))
+    replies::of_interval(questions::latest(table, u, v, last))
 }
 
 // Asks whether every animal can have been reached from every other in a window: 1 yes, 2 no, 0 refused.

@@ -2,14 +2,15 @@
 use mathlib.Core.Path.{_≡_, refl, sym, ap, ap₂}
 use mathlib.Core.Logic.{_↔_, _⊎_, inl, inr, ⊎-elim}
 use mathlib.Core.Bool.{Bool, true, false, cond, _||_}
-use mathlib.Core.Option.{Option, none, some}
+use mathlib.Core.Option.{Option, none, some, Option·map}
 use mathlib.Core.List.{List, [], _∷_, List·Memᴰ, List·Memᴰ·head, List·Memᴰ·tail, Memᴰ·cast}
-use Prim.Native.Nat.{ℕ, _+_, _≤_, _<_, min, max}
+use Prim.Native.Nat.{ℕ, _+_, _≤_, _<_}
 use native.Mathlib.Omega.{arith}
 use lib.Dec.{leb}
 use Rattle.journeys.specs.Journey.{Interval, interval, Inside}
-use Rattle.journeys.specs.Cell.{Cell, Before, Rising, later, sooner, latestDeparture, earliestArrival, inside, hasInside}
+use Rattle.journeys.specs.Cell.{Cell, Before, Rising, latestDeparting, latestDeparture, earliestArrival, inside, hasInside}
 use Rattle.journeys.proofs.Tests.{Outcome, holds, fails, le-outcome, or-outcome, inside-outcome}
+use Rattle.journeys.proofs.First.{FirstOf, nothing-asked, first-asked, first-some, DepartsFrom, ArrivesBy, ArrivesNoLater, DepartsNoEarlier, latest-departing, earliest-arriving}
 
 -- Some interval of the cell lies inside i, or equals it.
 pub data Covers (i : Interval) : Cell → Type 0 where
@@ -70,6 +71,31 @@ rising-least {p} i (x ∷ c) u (List·Memᴰ·head e) (there v) l = let b = arri
 rising-least {p} i (x ∷ c) u (List·Memᴰ·tail m) (here h) l = let r = rising-after x c u m in absurd (omega arith)
 rising-least {p} i (x ∷ c) u (List·Memᴰ·tail m) (there v) l = rising-least i c (u .1) m v l
 
+-- In a rising cell two intervals with the same arrival are one.
+pub one-arrival : (i j : Interval) (c : Cell) → Rising c → List·Memᴰ i c → List·Memᴰ j c → i .arrival ≡ j .arrival → i ≡ j
+one-arrival i j c u m n e = go (le-outcome (j .departure) (i .departure))
+  where
+    go : {b : Bool} → Outcome (j .departure ≤ i .departure) (i .departure < j .departure) b → i ≡ j
+    go (holds h) = rising-least j c u n (covers-member m) (h, omega arith)
+    go (fails h) = sym (rising-least i c u m (covers-member n) (omega arith, omega arith))
+
+-- So are two with the same departure.
+pub one-departure : (i j : Interval) (c : Cell) → Rising c → List·Memᴰ i c → List·Memᴰ j c → i .departure ≡ j .departure → i ≡ j
+one-departure i j c u m n e = go (le-outcome (i .arrival) (j .arrival))
+  where
+    go : {b : Bool} → Outcome (i .arrival ≤ j .arrival) (j .arrival < i .arrival) b → i ≡ j
+    go (holds h) = rising-least j c u n (covers-member m) (omega arith, h)
+    go (fails h) = sym (rising-least i c u m (covers-member n) (omega arith, omega arith))
+
+-- In a rising cell an interval departs latest, of those that arrive by its own arrival.
+pub latest-itself : (i : Interval) (c : Cell) → Rising c → List·Memᴰ i c → latestDeparting c (i .arrival) ≡ some i
+latest-itself i c u m =
+    first-some (λ j k p q h l. one-departure j k c u p q (omega arith)) (latest-departing (i .arrival) c) i .1 (m, omega arith, λ j n h. go j n h (le-outcome (j .departure) (i .departure)))
+  where
+    go : (j : Interval) → List·Memᴰ j c → j .arrival ≤ i .arrival → {b : Bool} → Outcome (j .departure ≤ i .departure) (i .departure < j .departure) b → j .departure ≤ i .departure
+    go j n h (holds l) = l
+    go j n h (fails l) = let e = departure-path (rising-least i c u m (covers-member n) (omega arith, h)) in omega arith
+
 -- ---- a rising cell is known by what it covers
 
 first-arrives : {p : Interval} (i : Interval) (c : Cell) → Rising (i ∷ c) → Covers p (i ∷ c) → i .arrival ≤ p .arrival
@@ -128,62 +154,23 @@ abbrev pub NotAfter : ℕ → Option ℕ → Type 0
 NotAfter b none = ⊥
 NotAfter b (some e) = e ≤ b
 
-later-iff : (a d : ℕ) (o : Option ℕ) → NotBefore a (later d o) ↔ ((a ≤ d) ⊎ NotBefore a o)
-unfolding later
-later-iff a d none = (inl, ⊎-elim (λ h. h) (λ h. absurd h))
-later-iff a d (some e) = (λ h. pick (le-outcome a d) h, ⊎-elim (λ h. omega arith) (λ h. omega arith))
-  where
-    pick : {b : Bool} → Outcome (a ≤ d) (d < a) b → a ≤ max d e → (a ≤ d) ⊎ (a ≤ e)
-    pick (holds k) h = inl k
-    pick (fails k) h = inr (omega arith)
-
-sooner-iff : (b d : ℕ) (o : Option ℕ) → NotAfter b (sooner d o) ↔ ((d ≤ b) ⊎ NotAfter b o)
-unfolding sooner
-sooner-iff b d none = (inl, ⊎-elim (λ h. h) (λ h. absurd h))
-sooner-iff b d (some e) = (λ h. pick (le-outcome d b) h, ⊎-elim (λ h. omega arith) (λ h. omega arith))
-  where
-    pick : {t : Bool} → Outcome (d ≤ b) (b < d) t → min d e ≤ b → (d ≤ b) ⊎ (e ≤ b)
-    pick (holds k) h = inl k
-    pick (fails k) h = inr (omega arith)
-
--- A cell with one interval more covers what the cell covered, and what that interval lies inside.
-module _ {i p : Interval} {c : Cell} {A : Type 0} (r : A ↔ Covers p c) where
-  covers-more : {B X : Type 0} → B ↔ (X ⊎ A) → X ↔ Inside i p → B ↔ Covers p (i ∷ c)
-  covers-more {B} {X} f g = (λ h. ⊎-elim (λ k. here (g .0 k)) (λ k. there (r .0 k)) (f .0 h), back)
-    where
-      back : Covers p (i ∷ c) → B
-      back (here h) = f .1 (inl (g .1 h))
-      back (there v) = f .1 (inr (r .1 v))
-
-  -- And no more where it does not lie inside.
-  covers-other : ¬ Inside i p → A ↔ Covers p (i ∷ c)
-  covers-other n = (λ h. there (r .0 h), back)
-    where
-      back : Covers p (i ∷ c) → A
-      back (here h) = absurd (n h)
-      back (there v) = r .1 v
-
 -- [a, t] is covered exactly when the latest departure with arrival at most t is a or later.
 pub latest-iff : (a t : ℕ) (c : Cell) → NotBefore a (latestDeparture c t) ↔ Covers (interval a t) c
 unfolding latestDeparture
-latest-iff a t [] = (λ h. absurd h, λ v. elim v [ ])
-latest-iff a t (i ∷ c) = go (latest-iff a t c) (le-outcome (i .arrival) t)
+latest-iff a t c = go (latest-departing t c)
   where
-    go : {b : Bool} → NotBefore a (latestDeparture c t) ↔ Covers (interval a t) c → Outcome (i .arrival ≤ t) (t < i .arrival) b
-        → NotBefore a (cond b (later (i .departure) (latestDeparture c t)) (latestDeparture c t)) ↔ Covers (interval a t) (i ∷ c)
-    go r (holds l) = covers-more r (later-iff a (i .departure) (latestDeparture c t)) (λ k. (k, l), λ h. h .0)
-    go r (fails l) = covers-other r (λ h. omega arith)
+    go : {o : Option Interval} → FirstOf (ArrivesBy t) DepartsNoEarlier c o → NotBefore a (Option·map (λ i. i .departure) o) ↔ Covers (interval a t) c
+    go (nothing-asked n) = (λ h. absurd h, λ v. let r = covers-find v in n (r .0) (r .1) (r .2 .1))
+    go (first-asked m p l) = (λ h. member-covers m (h, p), λ v. let r = covers-find v in omega (arith, r .2, l (r .0) (r .1) (r .2 .1)))
 
 -- [t, b] is covered exactly when the earliest arrival with departure at least t is b or sooner.
 pub earliest-iff : (t b : ℕ) (c : Cell) → NotAfter b (earliestArrival c t) ↔ Covers (interval t b) c
 unfolding earliestArrival
-earliest-iff t b [] = (λ h. absurd h, λ v. elim v [ ])
-earliest-iff t b (i ∷ c) = go (earliest-iff t b c) (le-outcome t (i .departure))
+earliest-iff t b c = go (earliest-arriving t c)
   where
-    go : {q : Bool} → NotAfter b (earliestArrival c t) ↔ Covers (interval t b) c → Outcome (t ≤ i .departure) (i .departure < t) q
-        → NotAfter b (cond q (sooner (i .arrival) (earliestArrival c t)) (earliestArrival c t)) ↔ Covers (interval t b) (i ∷ c)
-    go r (holds l) = covers-more r (sooner-iff b (i .arrival) (earliestArrival c t)) (λ k. (l, k), λ h. h .1)
-    go r (fails l) = covers-other r (λ h. omega arith)
+    go : {o : Option Interval} → FirstOf (DepartsFrom t) ArrivesNoLater c o → NotAfter b (Option·map (λ i. i .arrival) o) ↔ Covers (interval t b) c
+    go (nothing-asked n) = (λ h. absurd h, λ v. let r = covers-find v in n (r .0) (r .1) (r .2 .0))
+    go (first-asked m p l) = (λ h. member-covers m (p, h), λ v. let r = covers-find v in omega (arith, r .2, l (r .0) (r .1) (r .2 .0)))
 
 -- ---- the test for an interval inside
 

@@ -3,7 +3,7 @@ use mathlib.Core.Path.{_≡_, refl}
 use mathlib.Core.List.{List, [], _∷_, _++_, map}
 use Prim.Native.Nat.{ℕ, zero, suc}
 use Rattle.journeys.specs.Journey.{Contact, contact, Interval, interval}
-use Rattle.journeys.specs.Cell.{Cell, later, sooner, latestDeparture, earliestArrival, hasInside, withoutContaining, putInOrder, enter}
+use Rattle.journeys.specs.Cell.{Cell, later, sooner, latestDeparting, earliestArriving, latestDeparture, earliestArrival, hasInside, withoutContaining, putInOrder, enter}
 use Rattle.journeys.specs.Adding.{departureOf, arrivalOf, enterBoth, add, addAll, cellsOver}
 
 -- The cells (x, 0), (x, 1), .. of n animals.
@@ -26,27 +26,27 @@ session-cells : rows (cellsOver 1 session) 4 4
     ∷ ([] ∷ [] ∷ [] ∷ [] ∷ [])
     ∷ ([] ∷ [] ∷ [] ∷ [] ∷ [])
     ∷ []
-unfolding cellsOver addAll add enterBoth departureOf arrivalOf enter putInOrder withoutContaining hasInside latestDeparture earliestArrival later sooner
+unfolding cellsOver addAll add enterBoth departureOf arrivalOf enter putInOrder withoutContaining hasInside latestDeparture earliestArrival latestDeparting earliestArriving later sooner
 session-cells = refl
 
 -- The same contacts, the last one loaded first: the same cells.
 session-backwards : rows (cellsOver 1 (contact 1 3 4 ∷ contact 0 1 2 ∷ contact 0 1 1 ∷ [])) 4 4 ≡ rows (cellsOver 1 session) 4 4
-unfolding cellsOver addAll add enterBoth departureOf arrivalOf enter putInOrder withoutContaining hasInside latestDeparture earliestArrival later sooner
+unfolding cellsOver addAll add enterBoth departureOf arrivalOf enter putInOrder withoutContaining hasInside latestDeparture earliestArrival latestDeparting earliestArriving later sooner
 session-backwards = refl
 
 -- P7: with δ = 2, cell (0, 3) is [2,6].
 p7 : cellsOver 2 session 0 3 ≡ interval 2 6 ∷ []
-unfolding cellsOver addAll add enterBoth departureOf arrivalOf enter putInOrder withoutContaining hasInside latestDeparture earliestArrival later sooner
+unfolding cellsOver addAll add enterBoth departureOf arrivalOf enter putInOrder withoutContaining hasInside latestDeparture earliestArrival latestDeparting earliestArriving later sooner
 p7 = refl
 
 -- P7 with the last contact loaded first: it departs just when the one before it arrives.
 p7-backwards : cellsOver 2 (contact 1 3 4 ∷ contact 0 1 2 ∷ contact 0 1 1 ∷ []) 0 3 ≡ interval 2 6 ∷ []
-unfolding cellsOver addAll add enterBoth departureOf arrivalOf enter putInOrder withoutContaining hasInside latestDeparture earliestArrival later sooner
+unfolding cellsOver addAll add enterBoth departureOf arrivalOf enter putInOrder withoutContaining hasInside latestDeparture earliestArrival latestDeparting earliestArriving later sooner
 p7-backwards = refl
 
 -- P8: with δ = 3, cell (0, 3) is [1,7].
 p8 : cellsOver 3 session 0 3 ≡ interval 1 7 ∷ []
-unfolding cellsOver addAll add enterBoth departureOf arrivalOf enter putInOrder withoutContaining hasInside latestDeparture earliestArrival later sooner
+unfolding cellsOver addAll add enterBoth departureOf arrivalOf enter putInOrder withoutContaining hasInside latestDeparture earliestArrival latestDeparting earliestArriving later sooner
 p8 = refl
 
 abbrev nine : List Contact
@@ -54,12 +54,12 @@ nine = contact 0 2 1 ∷ contact 2 3 2 ∷ contact 0 1 1 ∷ contact 1 3 4 ∷ c
 
 -- P9: cell (0, 3) is [1,3].
 p9 : cellsOver 1 nine 0 3 ≡ interval 1 3 ∷ []
-unfolding cellsOver addAll add enterBoth departureOf arrivalOf enter putInOrder withoutContaining hasInside latestDeparture earliestArrival later sooner
+unfolding cellsOver addAll add enterBoth departureOf arrivalOf enter putInOrder withoutContaining hasInside latestDeparture earliestArrival latestDeparting earliestArriving later sooner
 p9 = refl
 
 -- P9: cell (0, 4) is [1,7].
 p9-further : cellsOver 1 nine 0 4 ≡ interval 1 7 ∷ []
-unfolding cellsOver addAll add enterBoth departureOf arrivalOf enter putInOrder withoutContaining hasInside latestDeparture earliestArrival later sooner
+unfolding cellsOver addAll add enterBoth departureOf arrivalOf enter putInOrder withoutContaining hasInside latestDeparture earliestArrival latestDeparting earliestArriving later sooner
 p9-further = refl
 
 -- One interval displaces three that contain it.
@@ -69,5 +69,5 @@ displaced = refl
 
 -- A return to the animal itself stores nothing.
 returned : cellsOver 1 (contact 0 1 1 ∷ contact 1 0 2 ∷ []) 0 0 ≡ []
-unfolding cellsOver addAll add enterBoth departureOf arrivalOf enter putInOrder withoutContaining hasInside latestDeparture earliestArrival later sooner
+unfolding cellsOver addAll add enterBoth departureOf arrivalOf enter putInOrder withoutContaining hasInside latestDeparture earliestArrival latestDeparting earliestArriving later sooner
 returned = refl

@@ -1,4 +1,5 @@
 pub mod Tests
+pub mod First
 pub mod Cover
 pub mod Enter
 pub mod Reach

@@ -31,6 +31,13 @@ pub outcome-iff : {P Q : Type 0} {b : Bool} → (Q → P → ⊥) → Outcome P 
 outcome-iff x (holds p) = (λ e. p, λ q. refl)
 outcome-iff x (fails q) = (λ e. untrue e, λ p. absurd (x q p))
 
+-- Two tests of which neither passes where the other fails are the same.
+pub same-outcome : {P Q R S : Type 0} {a b : Bool} → (P → S → ⊥) → (Q → R → ⊥) → Outcome P Q a → Outcome R S b → a ≡ b
+same-outcome x y (holds p) (holds r) = refl
+same-outcome x y (holds p) (fails s) = absurd (x p s)
+same-outcome x y (fails q) (holds r) = absurd (y q r)
+same-outcome x y (fails q) (fails s) = refl
+
 pub le-outcome : (a b : ℕ) → Outcome (a ≤ b) (b < a) (leb a b)
 le-outcome a b = outcome (leb a b) (leb-true a b) (leb-false a b)
 

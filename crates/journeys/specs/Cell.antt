@@ -1,8 +1,8 @@
 -- Cells and what is asked of them (document 01, "Words of the table" and "Adding a contact").
 use mathlib.Core.Bool.{Bool, true, false, cond, _&&_, _||_}
-use mathlib.Core.Option.{Option, none, some}
+use mathlib.Core.Option.{Option, none, some, Option·map}
 use mathlib.Core.List.{List, [], _∷_, List·Memᴰ}
-use Prim.Native.Nat.{ℕ, _+_, _≤_, _<_, min, max}
+use Prim.Native.Nat.{ℕ, _+_, _≤_, _<_}
 use lib.Dec.{leb, ltb}
 use Rattle.journeys.specs.Journey.{Interval}
 
@@ -32,25 +32,33 @@ pub record WellFormedCell (τ δ : ℕ) (c : Cell) : Type 0 where
   pub rising : Rising c
   pub limits : (i : Interval) → List·Memᴰ i c → Limits τ δ i
 
--- The later of two departures, where the second may be missing.
-unfoldable pub later : ℕ → Option ℕ → Option ℕ
-later d none = some d
-later d (some e) = some (max d e)
+-- Of two intervals the one that departs later; the second may be missing.
+unfoldable pub later : Interval → Option Interval → Option Interval
+later i none = some i
+later i (some j) = some (cond (leb (j .departure) (i .departure)) i j)
 
--- The sooner of two arrivals, where the second may be missing.
-unfoldable pub sooner : ℕ → Option ℕ → Option ℕ
-sooner d none = some d
-sooner d (some e) = some (min d e)
+-- Of two intervals the one that arrives sooner; the second may be missing.
+unfoldable pub sooner : Interval → Option Interval → Option Interval
+sooner i none = some i
+sooner i (some j) = some (cond (leb (i .arrival) (j .arrival)) i j)
+
+-- The interval of the cell with the latest departure, of those with arrival at most t, if any.
+unfoldable pub latestDeparting : Cell → ℕ → Option Interval
+latestDeparting [] t = none
+latestDeparting (i ∷ c) t = cond (leb (i .arrival) t) (later i (latestDeparting c t)) (latestDeparting c t)
+
+-- The interval of the cell with the earliest arrival, of those with departure at least t, if any.
+unfoldable pub earliestArriving : Cell → ℕ → Option Interval
+earliestArriving [] t = none
+earliestArriving (i ∷ c) t = cond (leb t (i .departure)) (sooner i (earliestArriving c t)) (earliestArriving c t)
 
 -- The latest departure in the cell with arrival at most t, if any.
 unfoldable pub latestDeparture : Cell → ℕ → Option ℕ
-latestDeparture [] t = none
-latestDeparture (i ∷ c) t = cond (leb (i .arrival) t) (later (i .departure) (latestDeparture c t)) (latestDeparture c t)
+latestDeparture c t = Option·map (λ i. i .departure) (latestDeparting c t)
 
 -- The earliest arrival in the cell with departure at least t, if any.
 unfoldable pub earliestArrival : Cell → ℕ → Option ℕ
-earliestArrival [] t = none
-earliestArrival (i ∷ c) t = cond (leb t (i .departure)) (sooner (i .arrival) (earliestArrival c t)) (earliestArrival c t)
+earliestArrival c t = Option·map (λ i. i .arrival) (earliestArriving c t)
 
 -- The interval j lies inside i, or equals it: the inner one stands first.
 abbrev pub inside : Interval → Interval → Bool

@@ -2,29 +2,29 @@
 ghost use mathlib.Core.Path.{_≡_};
 ghost use Prim.Native.Nat.{_<_};
 ghost use Rattle.journeys.specs.Journey.{interval};
-ghost use Rattle.journeys.specs.Cell.{latestDeparture, earliestArrival};
 ghost use Rattle.rules.specs.Layout.{animals, cellsOf};
 ghost use Rattle.rules.specs.Checks.{ValidTable};
 ghost use Rattle.rules.specs.Adding.{stands};
 ghost use Rattle.rules.specs.Questions.{reaches};
-ghost use Rattle.cells.specs.Stored.{orZero};
+ghost use Rattle.cells.specs.Rows.{firstDeparting, lastArriving};
+use cells::RowFound;
 
-// The earliest arrival in cell (u, v) with departure at least `first`, or 0 where there is none.
-pub fn first_arrival(table: &[u32], u: u32, v: u32, first: u32) -> u32
+// The first row of cell (u, v) that departs at or after `first`: its number and both its ends, or nothing.
+pub fn first_departing(table: &[u32], u: u32, v: u32, first: u32) -> RowFound
     requires { ⌜ ValidTable (now table) ⌝ }
     requires { ⌜ (u < animals (now table)) × (v < animals (now table)) ⌝ }
-    ensures { λ r. ⌜ r ≡ orZero (earliestArrival (cellsOf (now (table .entry)) u v) first) ⌝ }
+    ensures { λ r. ⌜ r ≡ firstDeparting (cellsOf (now (table .entry)) u v) first ⌝ }
 {
-    cells::earliest_arrival(tables::cell(table, u, v), first)
+    cells::first_departing(tables::cell(table, u, v), first)
 }
 
-// The latest departure in cell (u, v) with arrival at most `last`, or 0 where there is none.
-pub fn last_departure(table: &[u32], u: u32, v: u32, last: u32) -> u32
+// The last row of cell (u, v) that arrives by `last`: its number and both its ends, or nothing.
+pub fn last_arriving(table: &[u32], u: u32, v: u32, last: u32) -> RowFound
     requires { ⌜ ValidTable (now table) ⌝ }
     requires { ⌜ (u < animals (now table)) × (v < animals (now table)) ⌝ }
-    ensures { λ r. ⌜ r ≡ orZero (latestDeparture (cellsOf (now (table .entry)) u v) last) ⌝ }
+    ensures { λ r. ⌜ r ≡ lastArriving (cellsOf (now (table .entry)) u v) last ⌝ }
 {
-    cells::latest_departure(tables::cell(table, u, v), last)
+    cells::last_arriving(tables::cell(table, u, v), last)
 }
 
 // Whether [d, a] stands in cell (u, v).

@@ -15,7 +15,7 @@ use Rattle.rules.specs.Answers.{numberOf, unless}
 use Rattle.rules.specs.Checks.{ValidTable}
 use Rattle.rules.specs.Questions.{reachAnswer}
 use Rattle.rules.specs.QuestionList.{recordAnswerOf, asked, listRefusal, listAnswer, listLeaves}
-use Rattle.checks.proofs.Judged.{valid-behind}
+use Rattle.rules.proofs.Asked.{valid-behind}
 use Rattle.question_lists.specs.Plans.{planFor}
 
 -- ---- one record

@@ -1,1 +1,1 @@
-pub mod TickAnswers
+pub mod Intervals

@@ -1,15 +1,19 @@
 // Questions about windows and ticks. Each checks in document 01's order, and its answer is that of its rule, for every
 // input.
 ghost use mathlib.Core.Path.{_≡_};
+ghost use mathlib.Core.Option.{none};
 ghost use Rattle.rules.specs.Checks.{ValidTable};
+ghost use Rattle.rules.specs.Answers.{intervalAnswerOf};
 ghost use Rattle.rules.specs.Questions.{reachAnswer, earliestAnswer, latestAnswer, connectedAnswer, reachedAnswer, reachedWords, reachedCount};
+ghost use Rattle.cells.specs.Rows.{intervalFound};
 use animal_loops::sets;
 use animal_loops::walks;
+use cells::RowFound;
 use checks::Verdict;
 use rules::AskAnswer;
+use rules::IntervalAnswer;
 use rules::ReachedAnswer;
 use rules::SetAnswer;
-use rules::TickAnswer;
 
 // Whether v can have been reached from u in the window, on a table that passed 5 and 6. Refuses with 7, 8, 9.
 pub fn reach_checked(table: &[u32], u: u32, v: u32, first: u32, last: u32) -> AskAnswer
@@ -39,37 +43,38 @@ pub fn reach(table: &[u32], u: u32, v: u32, first: u32, last: u32) -> AskAnswer
     }
 }
 
-// The earliest arrival from u at v of a journey that departs at or after `first`. Refuses with 5, 6, 7, 8, 9.
-pub fn earliest(table: &[u32], u: u32, v: u32, first: u32) -> TickAnswer
+// The row found, as an answer: both its ends.
+fn answer_of(found: RowFound) -> IntervalAnswer
+    ensures { λ r. ⌜ r ≡ intervalAnswerOf none (intervalFound found) ⌝ }
+{
+    match found {
+        RowFound::At(row) => {
+            let ends = row.ends;
+            IntervalAnswer::At(ends)
+        }
+        RowFound::Nothing => IntervalAnswer::Nothing,
+    }
+}
+
+// The interval from u to v with the earliest arrival, of those that depart at or after `first`. Refuses with 5, 6, 7, 8, 9.
+pub fn earliest(table: &[u32], u: u32, v: u32, first: u32) -> IntervalAnswer
     ensures { λ r. ⌜ r ≡ earliestAnswer (now (table .entry)) u v first ⌝ }
 {
     let verdict = call_checks::judge_moment(table, u, v, first);
     match verdict {
-        Verdict::Refused(r) => TickAnswer::Refused(r),
-        Verdict::Passed => {
-            let arrival = pair_cells::first_arrival(table, u, v, first);
-            if arrival == 0 {
-                return TickAnswer::Nothing;
-            }
-            TickAnswer::At(arrival)
-        }
+        Verdict::Refused(r) => IntervalAnswer::Refused(r),
+        Verdict::Passed => answer_of(pair_cells::first_departing(table, u, v, first)),
     }
 }
 
-// The latest departure from u of a journey that arrives at v by `last`. Refuses with 5, 6, 7, 8, 9.
-pub fn latest(table: &[u32], u: u32, v: u32, last: u32) -> TickAnswer
+// The interval from u to v with the latest departure, of those that arrive by `last`. Refuses with 5, 6, 7, 8, 9.
+pub fn latest(table: &[u32], u: u32, v: u32, last: u32) -> IntervalAnswer
     ensures { λ r. ⌜ r ≡ latestAnswer (now (table .entry)) u v last ⌝ }
 {
     let verdict = call_checks::judge_moment(table, u, v, last);
     match verdict {
-        Verdict::Refused(r) => TickAnswer::Refused(r),
-        Verdict::Passed => {
-            let departure = pair_cells::last_departure(table, u, v, last);
-            if departure == 0 {
-                return TickAnswer::Nothing;
-            }
-            TickAnswer::At(departure)
-        }
+        Verdict::Refused(r) => IntervalAnswer::Refused(r),
+        Verdict::Passed => answer_of(pair_cells::last_arriving(table, u, v, last)),
     }
 }
 

@@ -2,12 +2,13 @@
 // lower 32. The words of a set are written where the caller lends room for them.
 ghost use mathlib.Core.Path.{_≡_};
 ghost use Prim.Native.Nat.{_<_, _^_};
-ghost use Rattle.rules.specs.Answers.{reply, numberOf, openReply, addReply, writeReply, readReply, askReply, tickReply, setReply, chainReply, listReply, recordReply};
+ghost use Rattle.rules.specs.Answers.{reply, numberOf, openReply, addReply, writeReply, readReply, askReply, intervalReply, setReply, chainReply, listReply, recordReply};
 ghost use Rattle.rules.specs.Questions.{setOver};
 ghost use Rattle.replies.specs.Sets.{setLeaves};
 use rules::AddAnswer;
 use rules::AskAnswer;
 use rules::ChainAnswer;
+use rules::IntervalAnswer;
 use rules::ListAnswer;
 use rules::OpenAnswer;
 use rules::ReachedAnswer;
@@ -15,7 +16,6 @@ use rules::ReadAnswer;
 use rules::RecordAnswer;
 use rules::Refusal;
 use rules::SetAnswer;
-use rules::TickAnswer;
 use rules::WriteAnswer;
 
 // A reply: which answer, and its number.
@@ -84,14 +84,16 @@ pub fn of_ask(answer: AskAnswer) -> u64
     }
 }
 
-// Of a question for a tick: 1 found, with the tick, 2 none.
-pub fn of_tick(answer: TickAnswer) -> u64
-    ensures { λ r. ⌜ r ≡ tickReply answer ⌝ }
+// Of a question for an interval: 1 found, with departure · 2¹⁶ + arrival, 2 none.
+pub fn of_interval(answer: IntervalAnswer) -> u64
+    ensures { λ r. ⌜ r ≡ intervalReply answer ⌝ }
 {
     match answer {
-        TickAnswer::At(tick) => reply_of(1, tick),
-        TickAnswer::Nothing => reply_of(2, 0),
-        TickAnswer::Refused(r) => refused(r),
+        IntervalAnswer::At(ends) => reply_of(1, 0)
+            + ends.departure as u64 * 0x1_0000
+            + ends.arrival as u64,
+        IntervalAnswer::Nothing => reply_of(2, 0),
+        IntervalAnswer::Refused(r) => refused(r),
     }
 }
 

@@ -11,64 +11,32 @@ use native.Mathlib.Omega.{arith}
 use lib.ListN.{length, getD, replicate, length-append}
 use lib.Dec.{ltb, eqb}
 use Rattle.journeys.specs.Journey.{Contacts, Interval, interval, Inside, Journey, Minimal}
-use Rattle.journeys.specs.Cell.{Cell, hasInside, latestDeparture, earliestArrival}
+use Rattle.journeys.specs.Cell.{Cell, hasInside}
 use Rattle.journeys.proofs.Tests.{untrue, never, Outcome, holds, fails, outcome-iff, eq-outcome, lt-outcome, and-outcome, or-outcome}
-use Rattle.journeys.proofs.Cover.{Covers, covers-find, member-covers, hasInside-outcome, NotBefore, NotAfter, latest-iff, earliest-iff}
+use Rattle.journeys.proofs.Cover.{Covers, covers-find, member-covers, hasInside-outcome}
 use Rattle.journeys.proofs.Theorems.{fits-stored}
 use Rattle.rules.specs.Limits.{maxAnimals}
 use Rattle.rules.specs.declared.AskAnswer.the-variants.{Yes, No}
-use Rattle.rules.specs.declared.TickAnswer.the-variants.{At, Nothing}
 use Rattle.rules.specs.declared.SetAnswer.the-variants.{Found}
 use Rattle.rules.specs.declared.Refusal.{Refusal}
 use Rattle.rules.specs.Answers.{unless}
 use Rattle.rules.specs.Folds.{flat, allBelow, sumBelow, countBelow}
 use Rattle.rules.specs.Layout.{animals, cellAt, cellOf, cellsOf}
-use Rattle.rules.specs.Questions.{reaches, reachAnswer, earliestAnswer, latestAnswer, connects, connectedAnswer, isReached, setWord, setWords, reachedRefusal, reachedAnswer, reachedWords, reachedCount}
+use Rattle.rules.specs.Questions.{reaches, reachAnswer, connects, connectedAnswer, isReached, setWord, setWords, reachedRefusal, reachedAnswer, reachedWords, reachedCount}
 use Rattle.rules.specs.Fresh.{Fresh}
 use Rattle.rules.specs.Orders.{Sorted}
 use Rattle.rules.specs.Windows.{window, IsWindow, IsPair, Fits}
-use Rattle.rules.specs.Demand2.{StoredIn, Earliest, Latest, AllFit, ReachedFrom, BitSet}
+use Rattle.rules.specs.Demand2.{StoredIn, AllFit, ReachedFrom, BitSet}
 use Rattle.rules.proofs.Folds.{all-below, below-all, flat-member, member-flat}
 use Rattle.rules.proofs.Sorted.{sorted-flat, sorted-one, member-one}
 use Rattle.rules.proofs.Fresh.{fresh-animals, fresh-ticks, fresh-cells}
 use Rattle.rules.proofs.Bits.{sum-bit}
-use Rattle.rules.proofs.Asked.{yes-iff, no-iff, at-iff, nothing-iff, reach-asked, moment-asked, connected-asked, reached-asked}
-
--- ---- the first of some ticks, in either direction of time
-
--- The tick is there and comes at or before t, in the direction of time R.
-abbrev pub Comes : (ℕ → ℕ → Type 0) → ℕ → Option ℕ → Type 0
-Comes R t none = ⊥
-Comes R t (some s) = R s t
-
-module _ (R : ℕ → ℕ → Type 0) (itself : (t : ℕ) → R t t) (same : (s t : ℕ) → R s t → R t s → s ≡ t) (P : ℕ → Type 0) (o : Option ℕ)
-    (g : (t : ℕ) → Comes R t o ↔ ((s : ℕ) × P s × R s t)) where
-  -- It is the first of the ticks in P.
-  first-some : (e : ℕ) → (o ≡ some e) ↔ (P e × ((t : ℕ) → P t → R e t))
-  first-some e = go o g
-    where
-      go : (o : Option ℕ) → ((t : ℕ) → Comes R t o ↔ ((s : ℕ) × P s × R s t)) → (o ≡ some e) ↔ (P e × ((t : ℕ) → P t → R e t))
-      go none g = (λ q. never cc, λ h. absurd (g e .1 (e, h .0, itself e)))
-      go (some d) g = (λ q. subst (λ m. P m × ((t : ℕ) → P t → R m t)) (let r : d ≡ e = cc in r) found, λ h. ap some (same d e (before e (h .0)) (h .1 d (found .0))))
-        where
-          before : (t : ℕ) → P t → R d t
-          before t m = g t .1 (t, m, itself t)
-
-          found : P d × ((t : ℕ) → P t → R d t)
-          found = let w = g d .0 (itself d) in (subst P (same (w .0) d (w .2) (before (w .0) (w .1))) (w .1), before)
-
-  -- There is none exactly when P has no tick.
-  first-none : (o ≡ none) ↔ ((t : ℕ) → ¬ P t)
-  first-none = go o g
-    where
-      go : (o : Option ℕ) → ((t : ℕ) → Comes R t o ↔ ((s : ℕ) × P s × R s t)) → (o ≡ none) ↔ ((t : ℕ) → ¬ P t)
-      go none g = (λ q t m. g t .1 (t, m, itself t), λ h. refl)
-      go (some d) g = (λ q. never cc, λ h. absurd (let w = g d .0 (itself d) in h (w .0) (w .1)))
+use Rattle.rules.proofs.Asked.{yes-iff, no-iff, valid-fresh, reach-asked, connected-asked, reached-asked}
 
 module _ {n τ δ : ℕ} {S : Contacts} {T : List ℕ} (f : Fresh n τ δ S T) where
   -- ---- stored intervals
 
-  cell-is : (u v : ℕ) → IsPair n u v → cellsOf T u v ≡ f .cells u v
+  pub cell-is : (u v : ℕ) → IsPair n u v → cellsOf T u v ≡ f .cells u v
   cell-is u v p = fresh-cells f u v (p .from-below) (p .to-below)
 
   -- The cell read by the table's numbers is that of the set.
@@ -79,8 +47,12 @@ module _ {n τ δ : ℕ} {S : Contacts} {T : List ℕ} (f : Fresh n τ δ S T) w
   pub stored : (u v : ℕ) → IsPair n u v → (i : Interval) → StoredIn n τ T u v i ↔ Minimal S δ u v i
   stored u v p i = rw (cell-read u v p) (f .minimal .cells u v (p .apart) .exact i)
 
+  -- An interval stands in the pair's cell exactly when it is minimal.
+  pub stands-iff : (u v : ℕ) → IsPair n u v → (i : Interval) → List·Memᴰ i (cellsOf T u v) ↔ Minimal S δ u v i
+  stands-iff u v p i = rw (cell-is u v p) (f .minimal .cells u v (p .apart) .exact i)
+
   -- An interval is covered exactly when a journey lies inside it.
-  covered-iff : (u v : ℕ) → IsPair n u v → (i : Interval) → Covers i (cellsOf T u v) ↔ ((j : Interval) × Journey S δ u v j × Inside j i)
+  pub covered-iff : (u v : ℕ) → IsPair n u v → (i : Interval) → Covers i (cellsOf T u v) ↔ ((j : Interval) × Journey S δ u v j × Inside j i)
   covered-iff u v p i =
       let t = fits-stored δ S (f .cells) (f .minimal) u v (i .departure) (i .arrival) (p .apart) in
       rw (cell-is u v p) (λ c. t .1 (covers-find c), λ h. let w = t .0 h in member-covers (w .1) (w .2))
@@ -97,100 +69,14 @@ module _ {n τ δ : ℕ} {S : Contacts} {T : List ℕ} (f : Fresh n τ δ S T) w
   pub reach-yes : (u v first last : ℕ) → IsPair n u v → IsWindow τ δ first last → (reachAnswer T u v first last ≡ Yes) ↔ Fits S δ u v first last
   unfolding reachAnswer
   reach-yes u v first last p w =
-      rw (reach-asked f u v first last p w)
+      rw (reach-asked (valid-fresh f) u v first last p w)
       (let e = yes-iff (reaches T u v first last) in let c = reaches-iff u v p first last in (λ h. c .0 (e .0 h), λ h. e .1 (c .1 h)))
 
   pub reach-no : (u v first last : ℕ) → IsPair n u v → IsWindow τ δ first last → (reachAnswer T u v first last ≡ No) ↔ (¬ Fits S δ u v first last)
   unfolding reachAnswer
   reach-no u v first last p w =
-      rw (reach-asked f u v first last p w)
+      rw (reach-asked (valid-fresh f) u v first last p w)
       (let e = no-iff (reaches T u v first last) in let c = reaches-iff u v p first last in (λ h k. e .0 h (c .1 k), λ h. e .1 (λ k. h (c .0 k))))
-
-  -- ---- earliest arrival
-
-  module _ (u v : ℕ) (p : IsPair n u v) (first : ℕ) where
-    -- A journey that departs at or after first arrives at b.
-    abbrev Arrival : ℕ → Type 0
-    Arrival b = (d : ℕ) × Journey S δ u v (interval d b) × (first ≤ d)
-
-    arrival-comes : (b : ℕ) → Comes _≤_ b (earliestArrival (cellsOf T u v) first) ↔ ((e : ℕ) × Arrival e × (e ≤ b))
-    arrival-comes b =
-        let e = comes-is (earliestArrival (cellsOf T u v) first) in
-        let c = covered-iff u v p (interval first b) in
-        let i = earliest-iff first b (cellsOf T u v) in
-        (λ h. let w = c .0 (i .0 (e .0 h)) in (w .0 .arrival, (w .0 .departure, w .1, w .2 .0), w .2 .1), λ h. e .1 (i .1 (c .1 (interval (h .1 .0) (h .0), h .1 .1, (h .1 .2, h .2)))))
-      where
-        comes-is : (o : Option ℕ) → Comes _≤_ b o ↔ NotAfter b o
-        comes-is none = (λ h. h, λ h. h)
-        comes-is (some d) = (λ h. h, λ h. h)
-
-    pub earliest-some : (e : ℕ) → (earliestArrival (cellsOf T u v) first ≡ some e) ↔ Earliest S δ u v first e
-    earliest-some e =
-        let g = first-some _≤_ le-refl (λ s t h k. omega arith) Arrival (earliestArrival (cellsOf T u v) first) arrival-comes e in (
-          λ q. let r = g .0 q in record { departure = r .0 .0; journey = r .0 .1; departs = r .0 .2; least = λ i j h. r .1 (i .arrival) (i .departure, j, h) },
-          λ h. g .1 ((h .departure, h .journey, h .departs), λ t a. h .least (interval (a .0) t) (a .1) (a .2)),
-        )
-
-    pub earliest-nothing : (earliestArrival (cellsOf T u v) first ≡ none) ↔ ((i : Interval) → Journey S δ u v i → ¬ (first ≤ i .departure))
-    earliest-nothing =
-        let g = first-none _≤_ le-refl (λ s t h k. omega arith) Arrival (earliestArrival (cellsOf T u v) first) arrival-comes in
-        (λ q i j h. g .0 q (i .arrival) (i .departure, j, h), λ h. g .1 (λ t a. h (interval (a .0) t) (a .1) (a .2)))
-
-    module _ (h : 1 ≤ first) (k : first ≤ τ + δ) where
-      pub earliest-at : (e : ℕ) → (earliestAnswer T u v first ≡ At e) ↔ Earliest S δ u v first e
-      unfolding earliestAnswer
-      earliest-at e =
-          rw (moment-asked f u v first p h k) (let a = at-iff (earliestArrival (cellsOf T u v) first) e in let b = earliest-some e in (λ q. b .0 (a .0 q), λ q. a .1 (b .1 q)))
-
-      pub earliest-none : (earliestAnswer T u v first ≡ Nothing) ↔ ((i : Interval) → Journey S δ u v i → ¬ (first ≤ i .departure))
-      unfolding earliestAnswer
-      earliest-none =
-          rw (moment-asked f u v first p h k) (let a = nothing-iff (earliestArrival (cellsOf T u v) first) in let b = earliest-nothing in (λ q. b .0 (a .0 q), λ q. a .1 (b .1 q)))
-
-  -- ---- latest departure
-
-  module _ (u v : ℕ) (p : IsPair n u v) (last : ℕ) where
-    -- A journey that arrives by last departs at d.
-    abbrev Departure : ℕ → Type 0
-    Departure d = (b : ℕ) × Journey S δ u v (interval d b) × (b ≤ last)
-
-    -- The order of time turned round.
-    abbrev Back : ℕ → ℕ → Type 0
-    Back s t = t ≤ s
-
-    departure-comes : (a : ℕ) → Comes Back a (latestDeparture (cellsOf T u v) last) ↔ ((d : ℕ) × Departure d × Back d a)
-    departure-comes a =
-        let e = comes-is (latestDeparture (cellsOf T u v) last) in
-        let c = covered-iff u v p (interval a last) in
-        let i = latest-iff a last (cellsOf T u v) in
-        (λ h. let w = c .0 (i .0 (e .0 h)) in (w .0 .departure, (w .0 .arrival, w .1, w .2 .1), w .2 .0), λ h. e .1 (i .1 (c .1 (interval (h .0) (h .1 .0), h .1 .1, (h .2, h .1 .2)))))
-      where
-        comes-is : (o : Option ℕ) → Comes Back a o ↔ NotBefore a o
-        comes-is none = (λ h. h, λ h. h)
-        comes-is (some d) = (λ h. h, λ h. h)
-
-    pub latest-some : (d : ℕ) → (latestDeparture (cellsOf T u v) last ≡ some d) ↔ Latest S δ u v last d
-    latest-some d =
-        let g = first-some Back le-refl (λ s t h k. omega arith) Departure (latestDeparture (cellsOf T u v) last) departure-comes d in (
-          λ q. let r = g .0 q in record { arrival = r .0 .0; journey = r .0 .1; arrives = r .0 .2; greatest = λ i j h. r .1 (i .departure) (i .arrival, j, h) },
-          λ h. g .1 ((h .arrival, h .journey, h .arrives), λ t a. h .greatest (interval t (a .0)) (a .1) (a .2)),
-        )
-
-    pub latest-nothing : (latestDeparture (cellsOf T u v) last ≡ none) ↔ ((i : Interval) → Journey S δ u v i → ¬ (i .arrival ≤ last))
-    latest-nothing =
-        let g = first-none Back le-refl (λ s t h k. omega arith) Departure (latestDeparture (cellsOf T u v) last) departure-comes in
-        (λ q i j h. g .0 q (i .departure) (i .arrival, j, h), λ h. g .1 (λ t a. h (interval t (a .0)) (a .1) (a .2)))
-
-    module _ (h : 1 ≤ last) (k : last ≤ τ + δ) where
-      pub latest-at : (d : ℕ) → (latestAnswer T u v last ≡ At d) ↔ Latest S δ u v last d
-      unfolding latestAnswer
-      latest-at d =
-          rw (moment-asked f u v last p h k) (let a = at-iff (latestDeparture (cellsOf T u v) last) d in let b = latest-some d in (λ q. b .0 (a .0 q), λ q. a .1 (b .1 q)))
-
-      pub latest-none : (latestAnswer T u v last ≡ Nothing) ↔ ((i : Interval) → Journey S δ u v i → ¬ (i .arrival ≤ last))
-      unfolding latestAnswer
-      latest-none =
-          rw (moment-asked f u v last p h k) (let a = nothing-iff (latestDeparture (cellsOf T u v) last) in let b = latest-nothing in (λ q. b .0 (a .0 q), λ q. a .1 (b .1 q)))
 
   -- ---- connected
 
@@ -215,11 +101,11 @@ module _ {n τ δ : ℕ} {S : Contacts} {T : List ℕ} (f : Fresh n τ δ S T) w
     module _ (w : IsWindow τ δ first last) where
       pub connected-yes : (connectedAnswer T first last ≡ Yes) ↔ AllFit S δ n first last
       unfolding connectedAnswer
-      connected-yes = rw (connected-asked f first last w) (let e = yes-iff (connects T first last) in (λ h. connects-iff .0 (e .0 h), λ h. e .1 (connects-iff .1 h)))
+      connected-yes = rw (connected-asked (valid-fresh f) first last w) (let e = yes-iff (connects T first last) in (λ h. connects-iff .0 (e .0 h), λ h. e .1 (connects-iff .1 h)))
 
       pub connected-no : (connectedAnswer T first last ≡ No) ↔ (¬ AllFit S δ n first last)
       unfolding connectedAnswer
-      connected-no = rw (connected-asked f first last w) (let e = no-iff (connects T first last) in (λ h k. e .0 h (connects-iff .1 k), λ h. e .1 (λ k. h (connects-iff .0 k))))
+      connected-no = rw (connected-asked (valid-fresh f) first last w) (let e = no-iff (connects T first last) in (λ h k. e .0 h (connects-iff .1 k), λ h. e .1 (λ k. h (connects-iff .0 k))))
 
   -- ---- reached
 
@@ -271,11 +157,11 @@ module _ {n τ δ : ℕ} {S : Contacts} {T : List ℕ} (f : Fresh n τ δ S T) w
     module _ (w : IsWindow τ δ first last) where
       pub reached-found : reachedAnswer T u first last ≡ Found
       unfolding reachedAnswer
-      reached-found = rw (reached-asked f u first last h w) refl
+      reached-found = rw (reached-asked (valid-fresh f) u first last h w) refl
 
       pub reached-count : (l : List ℕ) × Sorted _<_ l × ((i : ℕ) → List·Memᴰ i l ↔ ReachedFrom S δ n u first last i) × (reachedCount T u first last ≡ length l)
       unfolding reachedCount
-      reached-count = (reachedList, list-sorted, list-iff, rw (reached-asked f u first last h w, fresh-animals f) (sym (list-length n)))
+      reached-count = (reachedList, list-sorted, list-iff, rw (reached-asked (valid-fresh f) u first last h w, fresh-animals f) (sym (list-length n)))
 
       word-at : (j : ℕ) → j < 8 → getD (setWords T u first last) j 0 ≡ setWord T u first last j
       unfolding setWords
@@ -295,7 +181,7 @@ module _ {n τ δ : ℕ} {S : Contacts} {T : List ℕ} (f : Fresh n τ δ S T) w
           let j : i / 32 < 8 = omega arith in
           let b : i % 32 < 32 = omega arith in
           let e : i / 32 * 32 + i % 32 ≡ i = omega arith in
-          rw (reached-asked f u first last h w)
+          rw (reached-asked (valid-fresh f) u first last h w)
           (ap (λ x. x / 2 ^ (i % 32) % 2) (word-at (i / 32) j)
           ∙ sum-bit (λ c. isReached T u first last (i / 32 * 32 + c)) (i % 32) 32 b
           ∙ ap (λ m. cond (isReached T u first last m) 1 0) e)

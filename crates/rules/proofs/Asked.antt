@@ -7,14 +7,15 @@ use mathlib.Core.List.{List}
 use Prim.Native.Nat.{ℕ, _+_, _≤_, _<_}
 use native.Mathlib.Omega.{arith}
 use lib.Dec.{ltb, leb, eqb}
-use borrow.Author.Tests.{lt-ltb, le-leb, ne-eqb}
-use Rattle.journeys.specs.Journey.{Contacts}
+use borrow.Author.Tests.{lt-ltb, ltb-true, le-leb, ne-eqb}
+use Rattle.journeys.specs.Journey.{Contacts, Interval, interval}
 use Rattle.journeys.proofs.Tests.{never, untrue}
 use Rattle.rules.specs.declared.Refusal.{Refusal}
 use Rattle.rules.specs.declared.Refusal.the-variants.{NotOpen, NotWellFormed, NoSuchAnimal, SameAnimal, TickOutOfRange}
 use Rattle.rules.specs.declared.AskAnswer.the-variants.{Yes, No}
-use Rattle.rules.specs.declared.TickAnswer.the-variants.{At, Nothing}
-use Rattle.rules.specs.Answers.{ensure, askAnswerOf, tickAnswerOf}
+use Rattle.rules.specs.declared.Ends.{Ends}
+use Rattle.rules.specs.declared.IntervalAnswer.the-variants.{At, Nothing}
+use Rattle.rules.specs.Answers.{ensure, askAnswerOf, ends, intervalAnswerOf}
 use Rattle.rules.specs.Folds.{within}
 use Rattle.rules.specs.Layout.{animals, ticks, carry}
 use Rattle.rules.specs.Checks.{isOpen, wellFormed, ensureTable, ValidTable}
@@ -22,7 +23,7 @@ use Rattle.rules.specs.Adding.{ensurePair}
 use Rattle.rules.specs.Questions.{ensureAnimal, reachRefusal, momentRefusal, connectedRefusal, reachedRefusal}
 use Rattle.rules.specs.Fresh.{Fresh}
 use Rattle.rules.specs.Windows.{lastArrival, windowInRange, inOrder, ensureWindow, ensureMoment, IsWindow, IsPair}
-use Rattle.rules.proofs.Folds.{and-intro}
+use Rattle.rules.proofs.Folds.{and-left, and-right, and-intro}
 use Rattle.rules.proofs.Judged.{ensure-iff, within-iff}
 use Rattle.rules.proofs.Fresh.{fresh-passes, fresh-animals, fresh-ticks, fresh-carry}
 
@@ -36,35 +37,47 @@ pub no-iff : (b : Bool) → (askAnswerOf none b ≡ No) ↔ (¬ (b ≡ true))
 no-iff true = (λ e. never cc, λ e. absurd (e refl))
 no-iff false = (λ e q. untrue q, λ e. refl)
 
-pub at-iff : (o : Option ℕ) (t : ℕ) → (tickAnswerOf none o ≡ At t) ↔ (o ≡ some t)
-at-iff none t = (λ e. never cc, λ e. never cc)
-at-iff (some s) t = (λ e. let q : s ≡ t = cc in ap some q, λ e. let q : s ≡ t = cc in ap At q)
+pub at-iff : (o : Option Interval) (e : Ends) → (intervalAnswerOf none o ≡ At e) ↔ (o ≡ some (interval (e .departure) (e .arrival)))
+at-iff none e = (λ q. never cc, λ q. never cc)
+at-iff (some i) e = (
+  λ q. let p : ends i ≡ e = cc in ap (λ w. some (interval (w .departure) (w .arrival))) p,
+  λ q. let p : i ≡ interval (e .departure) (e .arrival) = cc in ap (λ w. At (ends w)) p,
+)
 
-pub nothing-iff : (o : Option ℕ) → (tickAnswerOf none o ≡ Nothing) ↔ (o ≡ none)
+pub nothing-iff : (o : Option Interval) → (intervalAnswerOf none o ≡ Nothing) ↔ (o ≡ none)
 nothing-iff none = (λ e. refl, λ e. refl)
 nothing-iff (some s) = (λ e. never cc, λ e. never cc)
 
--- ---- checks that pass on a fresh table
+-- ---- checks that pass on a table that passes 5 and 6
 
-module _ {n τ δ : ℕ} {S : Contacts} {T : List ℕ} (f : Fresh n τ δ S T) where
+-- The table passes 5 and 6 and has these numbers.
+pub record ValidOf (n τ δ : ℕ) (T : List ℕ) : Type 0 where
+  pub valid : ValidTable T
+  pub animals-are : animals T ≡ n
+  pub ticks-are : ticks T ≡ τ
+  pub carry-is : carry T ≡ δ
+
+-- A fresh table does.
+pub valid-fresh : {n τ δ : ℕ} {S : Contacts} {T : List ℕ} → Fresh n τ δ S T → ValidOf n τ δ T
+valid-fresh f = record { valid = fresh-passes f; animals-are = fresh-animals f; ticks-are = fresh-ticks f; carry-is = fresh-carry f }
+
+module _ {n τ δ : ℕ} {T : List ℕ} (f : ValidOf n τ δ T) where
   table-passes : (o : Option Refusal) → o ≡ none → ensureTable T o ≡ none
-  table-passes o e =
-      let p = fresh-passes f in
-      ensure-iff (isOpen T) NotOpen _ .1 (p .opens, ensure-iff (wellFormed T) NotWellFormed o .1 (p .formed, e))
+  table-passes o e = ensure-iff (isOpen T) NotOpen _ .1 (f .valid .opens, ensure-iff (wellFormed T) NotWellFormed o .1 (f .valid .formed, e))
 
   pair-passes : (u v : ℕ) → IsPair n u v → (o : Option Refusal) → o ≡ none → ensurePair T u v o ≡ none
   pair-passes u v p o e =
       ensure-iff (ltb u (animals T) && ltb v (animals T)) NoSuchAnimal _ .1 (
-        and-intro (ltb u (animals T)) (ltb v (animals T)) (lt-ltb u (animals T) (subst (λ m. u < m) (sym (fresh-animals f)) (p .from-below))) (lt-ltb v (animals T) (subst (λ m. v < m) (sym (fresh-animals f)) (p .to-below))),
+        and-intro (ltb u (animals T)) (ltb v (animals T)) (lt-ltb u (animals T) (subst (λ m. u < m) (sym (f .animals-are)) (p .from-below))) (lt-ltb v (animals T) (subst (λ m. v < m) (sym (f .animals-are)) (p .to-below))),
         ensure-iff (not (eqb u v)) SameAnimal o .1 (ap not (ne-eqb u v (p .apart)), e),
       )
 
   animal-passes : (u : ℕ) → u < n → (o : Option Refusal) → o ≡ none → ensureAnimal T u o ≡ none
-  animal-passes u h o e = ensure-iff (ltb u (animals T)) NoSuchAnimal o .1 (lt-ltb u (animals T) (subst (λ m. u < m) (sym (fresh-animals f)) h), e)
+  animal-passes u h o e = ensure-iff (ltb u (animals T)) NoSuchAnimal o .1 (lt-ltb u (animals T) (subst (λ m. u < m) (sym (f .animals-are)) h), e)
 
   -- Ticks run to τ + δ.
   last-is : lastArrival T ≡ τ + δ
-  last-is = rw (fresh-ticks f, fresh-carry f) refl
+  last-is = rw (f .ticks-are, f .carry-is) refl
 
   in-range : (t : ℕ) → 1 ≤ t → t ≤ τ + δ → within 1 t (lastArrival T) ≡ true
   in-range t h k = within-iff 1 t (lastArrival T) .1 (h, subst (λ m. t ≤ m) (sym last-is) k)
@@ -96,3 +109,32 @@ module _ {n τ δ : ℕ} {S : Contacts} {T : List ℕ} (f : Fresh n τ δ S T) w
   pub reached-asked : (u first last : ℕ) → u < n → IsWindow τ δ first last → reachedRefusal T u first last ≡ none
   unfolding reachedRefusal
   reached-asked u first last h w = table-passes _ (animal-passes u h _ (window-passes first last w none refl))
+
+-- ---- what a call that is not refused may rely on
+
+-- Where nothing is refused, the table passed 5 and 6, and nothing is refused behind them.
+pub valid-behind : (T : List ℕ) {o : Option Refusal} → ensureTable T o ≡ none → ValidTable T × (o ≡ none)
+valid-behind T {o} e =
+    let a = ensure-iff (isOpen T) NotOpen (ensure (wellFormed T) NotWellFormed o) .0 e in
+    let b = ensure-iff (wellFormed T) NotWellFormed o .0 (a .1) in
+    (record { opens = a .0; formed = b .0 }, b .1)
+
+-- Two animals of a valid table.
+pub record PairOf (T : List ℕ) (u v : ℕ) : Type 0 where
+  pub valid : ValidTable T
+  pub from-below : u < animals T
+  pub to-below : v < animals T
+
+-- Where nothing is refused, the two are animals of a valid table, and nothing is refused behind their check.
+pub pair-behind : (T : List ℕ) (u v : ℕ) {o : Option Refusal} → ensureTable T (ensurePair T u v o) ≡ none → PairOf T u v × (o ≡ none)
+pair-behind T u v {o} e =
+    let p = valid-behind T e in
+    let q = ensure-iff (ltb u (animals T) && ltb v (animals T)) NoSuchAnimal (ensure (not (eqb u v)) SameAnimal o) .0 (p .1) in
+    let s = ensure-iff (not (eqb u v)) SameAnimal o .0 (q .1) in (
+      record {
+        valid = p .0;
+        from-below = ltb-true u (animals T) (and-left (ltb u (animals T)) (ltb v (animals T)) (q .0));
+        to-below = ltb-true v (animals T) (and-right (ltb u (animals T)) (ltb v (animals T)) (q .0));
+      },
+      s .1,
+    )

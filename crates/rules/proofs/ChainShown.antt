@@ -2,7 +2,7 @@
 use mathlib.Core.Path.{_≡_, refl, sym, ap, _∙_, subst}
 use mathlib.Core.Logic.{_↔_, _⊎_, inl, inr, ⊎-elim, _≢_}
 use mathlib.Core.Bool.{Bool, true, false, cond}
-use mathlib.Core.Option.{Option, none, some}
+use mathlib.Core.Option.{Option, none, some, Option·map}
 use mathlib.Core.List.{List, [], _∷_, _++_, map, List·Memᴰ, List·Memᴰ·cases-cons, List·Memᴰ·not-nil}
 use Prim.Native.Nat.{ℕ, zero, suc, _+_, _-_, _≤_, _<_}
 use native.Mathlib.Nat.{le-refl}
@@ -11,8 +11,9 @@ use lib.ListN.{length, drop}
 use lib.Dec.{leb}
 use borrow.Author.Tests.{le-leb}
 use Rattle.journeys.specs.Journey.{Contact, Contacts, Interval, interval, Inside, Journey, Minimal}
-use Rattle.journeys.specs.Cell.{Cell, latestDeparture, earliestArrival}
+use Rattle.journeys.specs.Cell.{Cell, latestDeparting, earliestArriving, latestDeparture, earliestArrival}
 use Rattle.journeys.proofs.Tests.{never, Outcome, holds, fails, inside-outcome}
+use Rattle.journeys.proofs.Cover.{departure-path}
 use Rattle.words.specs.Words.{contactWord}
 use Rattle.rules.specs.declared.Refusal.{Refusal}
 use Rattle.rules.specs.declared.Refusal.the-variants.{ChainBufferTooShort}
@@ -28,11 +29,12 @@ use Rattle.rules.specs.Questions.{reachAnswer}
 use Rattle.rules.specs.Claims.{claimedAnswer}
 use Rattle.rules.specs.Fresh.{Fresh}
 use Rattle.rules.specs.Windows.{window, FitsWindow, fitsWindow, Fits, IsWindow, IsPair}
-use Rattle.rules.specs.Demand2.{Earliest, Latest}
+use Rattle.rules.specs.EarliestLatest.{Earliest, Latest}
 use Rattle.rules.proofs.Judged.{ensure-iff}
 use Rattle.rules.proofs.Fresh.{fresh-animals}
-use Rattle.rules.proofs.Asked.{asked-with}
-use Rattle.rules.proofs.Answered.{reach-yes, earliest-some, earliest-nothing, latest-some, latest-nothing}
+use Rattle.rules.proofs.Asked.{valid-fresh, asked-with}
+use Rattle.rules.proofs.Answered.{reach-yes}
+use Rattle.rules.proofs.EarliestLatest.{earliest-some, earliest-nothing, latest-some, latest-nothing}
 use Rattle.rules.proofs.Chains.{chain-unique, chain-sound, chain-complete, chain-distinct, chain-journey, chain-below}
 use Rattle.rules.proofs.Distinct.{distinct-few}
 use Rattle.rules.proofs.Claims.{claims-judged}
@@ -46,25 +48,22 @@ one-chain S δ u v first last l m p q =
     chain-unique (subst (λ e. IsChain S δ v (k .arrival) u e l) d (subst (λ b. IsChain S δ v b u (i .departure) l) a (p .chain))) (q .chain)
 
 module _ {n τ δ : ℕ} {S : Contacts} {T : List ℕ} (f : Fresh n τ δ S T) (u v first last : ℕ) (p : IsPair n u v) where
-  -- The arrival kept and the latest departure for it are the ends of a minimal interval.
-  module _ (b d : ℕ) (e : Earliest S δ u v first b) (g : Latest S δ u v b d) where
-    leaves : first ≤ d
-    leaves = omega (arith, e .departs, g .greatest (interval (e .departure) b) (e .journey) (le-refl b))
+  -- The interval k that departs latest, of those that arrive by the earliest arrival, is that of the earliest arrival.
+  module _ (i k : Interval) (e : Earliest (Minimal S δ u v) (Journey S δ u v) first i) (g : Latest (Minimal S δ u v) (Journey S δ u v) (i .arrival) k) where
+    same : k ≡ i
+    same = e .is-minimal .least k (g .is-minimal .journey) (g .greatest i (e .is-minimal .journey) (le-refl (i .arrival)), g .arrives)
 
-    arrives : g .arrival ≡ b
-    arrives = omega (arith, g .arrives, e .least (interval d (g .arrival)) (g .journey) leaves)
+    abbrev b : ℕ
+    b = i .arrival
 
-    kept : Journey S δ u v (interval d b)
-    kept = subst (λ q. Journey S δ u v (interval d q)) arrives (g .journey)
+    abbrev d : ℕ
+    d = k .departure
+
+    departs : d ≡ i .departure
+    departs = departure-path same
 
     kept-minimal : Minimal S δ u v (interval d b)
-    kept-minimal = record { journey = kept; least = λ i j h. (λ k. record { departure = same-departure i j h k; arrival = same-arrival i j h k }) }
-      where
-        same-arrival : (i : Interval) → Journey S δ u v i → (d ≤ i .departure) × (i .arrival ≤ b) → i .arrival ≡ b
-        same-arrival i j h = omega (arith, e .least i j (omega (arith, leaves)))
-
-        same-departure : (i : Interval) → Journey S δ u v i → (d ≤ i .departure) × (i .arrival ≤ b) → i .departure ≡ d
-        same-departure i j h = omega (arith, g .greatest i j (h .1))
+    kept-minimal = subst (λ a. Minimal S δ u v (interval a b)) (sym departs) (e .is-minimal)
 
     found : FitsWindow (interval d b) first last → (l : List Contact) × (chainFrom T v b (animals T - 1) u d ≡ some l) × NamedChain S δ u v first last l
     found h =
@@ -72,7 +71,7 @@ module _ {n τ δ : ℕ} {S : Contacts} {T : List ℕ} (f : Fresh n τ δ S T) (
           r .0,
           r .1,
           record {
-            kept = record { taken = interval d b; journey = kept; fits = h };
+            kept = record { taken = interval d b; journey = kept-minimal .journey; fits = h };
             earliest = λ o. e .least (o .taken) (o .journey) (o .fits .0);
             latest = λ o q. g .greatest (o .taken) (o .journey) (omega arith);
             chain = chain-sound f v b (p .to-below) (animals T - 1) u d (r .0) (p .from-below) kept-minimal (r .1);
@@ -100,26 +99,30 @@ module _ {n τ δ : ℕ} {S : Contacts} {T : List ℕ} (f : Fresh n τ δ S T) (
     nothing : (¬ Fits S δ u v first last) → Shown none
 
   -- The interval kept fits exactly when some journey does.
-  shown-kept : (b d : ℕ) → Earliest S δ u v first b → Latest S δ u v b d → Shown (fitting b d)
-  shown-kept b d e g = go (inside-outcome (interval d b) (window first last))
+  shown-kept : (i k : Interval) → Earliest (Minimal S δ u v) (Journey S δ u v) first i → Latest (Minimal S δ u v) (Journey S δ u v) (i .arrival) k
+      → Shown (fitting (i .arrival) (k .departure))
+  shown-kept i k e g = go (inside-outcome (interval (k .departure) (i .arrival)) (window first last))
     where
-      go : {t : Bool} → Outcome (FitsWindow (interval d b) first last) ((d < window first last .departure) ⊎ (window first last .arrival < b)) t → Shown (cond t (chainFrom T v b (animals T - 1) u d) none)
-      go (holds h) = let r = found b d e g h in subst Shown (sym (r .1)) (named (r .2))
-      go (fails o) = nothing (λ w. ⊎-elim (λ k. omega (arith, leaves b d e g)) (λ k. omega (arith, w .fits, e .least (w .taken) (w .journey) (w .fits .0))) o)
+      go : {t : Bool} → Outcome (FitsWindow (interval (k .departure) (i .arrival)) first last) ((k .departure < window first last .departure) ⊎ (window first last .arrival < i .arrival)) t
+          → Shown (cond t (chainFrom T v (i .arrival) (animals T - 1) u (k .departure)) none)
+      go (holds h) = let r = found i k e g h in subst Shown (sym (r .1)) (named (r .2))
+      go (fails o) = nothing (λ w. ⊎-elim (λ l. omega (arith, e .departs, departs i k e g)) (λ l. omega (arith, w .fits, e .least (w .taken) (w .journey) (w .fits .0))) o)
 
   -- Where nothing departs by the arrival kept, nothing arrives then.
-  shown-departure : (b : ℕ) → Earliest S δ u v first b → (o : Option ℕ) → latestDeparture (cellsOf T u v) b ≡ o → Shown (withTick o (fitting b))
-  shown-departure b e none q = absurd (latest-nothing f u v p b .0 q (interval (e .departure) b) (e .journey) (le-refl b))
-  shown-departure b e (some d) q = shown-kept b d e (latest-some f u v p b d .0 q)
+  shown-departure : (i : Interval) → Earliest (Minimal S δ u v) (Journey S δ u v) first i → (o : Option Interval) → latestDeparting (cellsOf T u v) (i .arrival) ≡ o
+      → Shown (withTick (Option·map (λ k. k .departure) o) (fitting (i .arrival)))
+  shown-departure i e none q = absurd (latest-nothing f u v p (i .arrival) .0 q i (e .is-minimal .journey) (le-refl (i .arrival)))
+  shown-departure i e (some k) q = shown-kept i k e (latest-some f u v p (i .arrival) k .0 q)
 
-  shown-arrival : (o : Option ℕ) → earliestArrival (cellsOf T u v) first ≡ o → Shown (withTick o arriving)
+  shown-arrival : (o : Option Interval) → earliestArriving (cellsOf T u v) first ≡ o → Shown (withTick (Option·map (λ i. i .arrival) o) arriving)
+  unfolding latestDeparture
   shown-arrival none q = nothing (λ w. earliest-nothing f u v p first .0 q (w .taken) (w .journey) (w .fits .0))
-  shown-arrival (some b) q = shown-departure b (earliest-some f u v p first b .0 q) (latestDeparture (cellsOf T u v) b) refl
+  shown-arrival (some i) q = shown-departure i (earliest-some f u v p first i .0 q) (latestDeparting (cellsOf T u v) (i .arrival)) refl
 
   -- What the rule gives is the chain named, and none where no journey fits.
   chain-shown : Shown (chainOf T u v first last)
-  unfolding chainOf
-  chain-shown = shown-arrival (earliestArrival (cellsOf T u v) first) refl
+  unfolding chainOf earliestArrival
+  chain-shown = shown-arrival (earliestArriving (cellsOf T u v) first) refl
 
   -- Where a journey fits, the chain is found and is the one named.
   chain-found : Fits S δ u v first last → Result (chainOf T u v first last)
@@ -142,7 +145,7 @@ module _ {n τ δ : ℕ} {S : Contacts} {T : List ℕ} (f : Fresh n τ δ S T) (
     chain-asked : chainRefusal T u v first last B ≡ none
     unfolding chainRefusal
     chain-asked =
-        asked-with f u v first last p w _
+        asked-with (valid-fresh f) u v first last p w _
         (ensure-iff (leb (animals T - 1) (length B)) ChainBufferTooShort none .1 (le-leb (animals T - 1) (length B) (omega (arith, fresh-animals f)), refl))
 
     pub chain-is-shown : (l : List Contact) → NamedChain S δ u v first last l

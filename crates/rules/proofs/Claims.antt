@@ -25,7 +25,7 @@ use Rattle.rules.specs.Windows.{window, FitsWindow, fitsWindow, IsWindow
 use Rattle.rules.proofs.Folds.{and-left, and-right, and-intro}
 use Rattle.rules.proofs.Fresh.{fresh-animals, fresh-carry}
 use Rattle.rules.proofs.Held.{fresh-holds}
-use Rattle.rules.proofs.Asked.{yes-iff, no-iff, reach-asked}
+use Rattle.rules.proofs.Asked.{valid-fresh, yes-iff, no-iff, reach-asked}
 
 module _ {n τ δ : ℕ} {S : Contacts} {T : List ℕ} (f : Fresh n τ δ S T) where
   -- ---- words of held contacts
@@ -169,13 +169,13 @@ module _ {n τ δ : ℕ} {S : Contacts} {T : List ℕ} (f : Fresh n τ δ S T) w
     yes-when : (claimedAnswer T u v first last ws ≡ Yes) ↔ SpellsJourney S δ u v first last ws
     unfolding claimedAnswer
     yes-when =
-        rw (reach-asked f u v first last p w)
+        rw (reach-asked (valid-fresh f) u v first last p w)
         (let e = yes-iff (spells T u v first last ws) in let c = spells-iff u v first last ws in (λ h. c .0 (e .0 h), λ h. e .1 (c .1 h)))
 
     no-when : (claimedAnswer T u v first last ws ≡ No) ↔ (¬ SpellsJourney S δ u v first last ws)
     unfolding claimedAnswer
     no-when =
-        rw (reach-asked f u v first last p w)
+        rw (reach-asked (valid-fresh f) u v first last p w)
         (let e = no-iff (spells T u v first last ws) in let c = spells-iff u v first last ws in (λ h k. e .0 h (c .1 k), λ h. e .1 (λ k. h (c .0 k))))
 
 pub claims-judged : ClaimsJudged

@@ -3,7 +3,8 @@ use Rattle.rules.specs.CallLists.{engine}
 use Rattle.rules.specs.Demand2.{questions, Demand2}
 use Rattle.rules.proofs.Judged.{open-none}
 use Rattle.rules.proofs.Runs.{run-fresh}
-use Rattle.rules.proofs.Answered.{stored, reach-yes, reach-no, earliest-at, earliest-none, latest-at, latest-none, connected-yes, connected-no, reached-found, reached-eight, reached-bit, reached-count}
+use Rattle.rules.proofs.EarliestLatest.{earliest-at, earliest-none, latest-at, latest-none}
+use Rattle.rules.proofs.Answered.{stored, reach-yes, reach-no, connected-yes, connected-no, reached-found, reached-eight, reached-bit, reached-count}
 use Rattle.rules.proofs.ChainShown.{named-when, one-chain, chain-is-shown, none-is-shown}
 
 pub demand2 : Demand2 engine questions

@@ -6,15 +6,16 @@ use mathlib.Core.List.{List, List·Memᴰ}
 use Prim.Native.Nat.{ℕ, _+_, _≤_, _<_}
 use native.Mathlib.Omega.{arith}
 use lib.ListN.{length}
-use Rattle.journeys.specs.Journey.{Contacts}
+use Rattle.journeys.specs.Journey.{Contacts, Interval}
 use Rattle.journeys.proofs.Tests.{never}
 use Rattle.rules.specs.Limits.{maxAnimals}
 use Rattle.rules.specs.declared.Refusal.{Refusal}
 use Rattle.rules.specs.declared.AskAnswer.{AskAnswer}
 use Rattle.rules.specs.declared.AskAnswer.the-variants.{Yes, No, Refused as AskRefused}
-use Rattle.rules.specs.declared.TickAnswer.{TickAnswer}
-use Rattle.rules.specs.declared.TickAnswer.the-variants.{At, Nothing}
-use Rattle.rules.specs.Answers.{tickAnswerOf}
+use Rattle.rules.specs.declared.Ends.{Ends}
+use Rattle.rules.specs.declared.IntervalAnswer.{IntervalAnswer}
+use Rattle.rules.specs.declared.IntervalAnswer.the-variants.{At, Nothing}
+use Rattle.rules.specs.Answers.{ends, intervalAnswerOf}
 use Rattle.rules.specs.Layout.{cellsOf}
 use Rattle.rules.specs.Questions.{momentRefusal, earliestAnswer, latestAnswer}
 use Rattle.rules.specs.Fresh.{Fresh}
@@ -23,7 +24,7 @@ use Rattle.rules.specs.Demand2.{Questions, questions, BitSet, AnsweredOn
 use Rattle.rules.specs.Determined.{AgreeOn, AgreeWith, DeterminedAnswers}
 use Rattle.rules.proofs.Judged.{none-some}
 use Rattle.rules.proofs.Sorted.{sorted-unique}
-use Rattle.rules.proofs.Asked.{moment-asked}
+use Rattle.rules.proofs.Asked.{valid-fresh, moment-asked}
 use Rattle.rules.proofs.Demand2.{demand2}
 
 -- Two answers that are yes and no on the same condition are the same.
@@ -38,30 +39,34 @@ told Yes a b = inl (a .0 refl)
 told No a b = inr (b .0 refl)
 told (AskRefused r) a b = never (let e : AskRefused r ≡ No = b .1 (λ p. never (let q : AskRefused r ≡ Yes = a .1 p in cc)) in cc)
 
--- Where nothing is refused, a tick is told, or that there is none.
-tick-told : (o : Option Refusal) (m : Option ℕ) → o ≡ none → ((e : ℕ) × (tickAnswerOf o m ≡ At e)) ⊎ (tickAnswerOf o m ≡ Nothing)
-tick-told none none e = inr refl
-tick-told none (some t) e = inl (t, refl)
-tick-told (some r) m e = none-some (some r) r e refl
+-- An interval is told, or that there is none.
+abbrev Told : IntervalAnswer → Type 0
+Told x = ((e : Ends) × (x ≡ At e)) ⊎ (x ≡ Nothing)
 
--- Two answers that tell the tick of the third are the same.
-same-tick : {P : ℕ → Type 0} {N : Type 0} (x y z : TickAnswer) → ((e : ℕ) × (z ≡ At e)) ⊎ (z ≡ Nothing)
-    → ((e : ℕ) → (x ≡ At e) ↔ P e) → (x ≡ Nothing) ↔ N → ((e : ℕ) → (y ≡ At e) ↔ P e) → (y ≡ Nothing) ↔ N → ((e : ℕ) → (z ≡ At e) ↔ P e) → (z ≡ Nothing) ↔ N → x ≡ y
-same-tick x y z (inl (e, h)) a b c d p q = let w = p e .0 h in a e .1 w ∙ sym (c e .1 w)
-same-tick x y z (inr h) a b c d p q = let w = q .0 h in b .1 w ∙ sym (d .1 w)
+-- That is so where nothing is refused.
+interval-told : (o : Option Refusal) (m : Option Interval) → o ≡ none → Told (intervalAnswerOf o m)
+interval-told none none e = inr refl
+interval-told none (some i) e = inl (ends i, refl)
+interval-told (some r) m e = none-some (some r) r e refl
+
+-- Two answers that tell the interval of the third are the same.
+same-interval : {P : Ends → Type 0} {N : Type 0} (x y z : IntervalAnswer) → Told z → ((e : Ends) → (x ≡ At e) ↔ P e) → (x ≡ Nothing) ↔ N
+    → ((e : Ends) → (y ≡ At e) ↔ P e) → (y ≡ Nothing) ↔ N → ((e : Ends) → (z ≡ At e) ↔ P e) → (z ≡ Nothing) ↔ N → x ≡ y
+same-interval x y z (inl (e, h)) a b c d p q = let w = p e .0 h in a e .1 w ∙ sym (c e .1 w)
+same-interval x y z (inr h) a b c d p q = let w = q .0 h in b .1 w ∙ sym (d .1 w)
 
 module _ {Q R : Questions} {n τ δ : ℕ} {S : Contacts} {T : List ℕ} (f : Fresh n τ δ S T) (a : AnsweredOn Q n τ δ S T) (b : AnsweredOn R n τ δ S T) where
   -- The questions of document 01 on the table.
   ours : AnsweredOn questions n τ δ S T
   ours = demand2 .answered n τ δ S T f
 
-  earliest-told : (u v first : ℕ) → IsPair n u v → 1 ≤ first → first ≤ τ + δ → ((e : ℕ) × (earliestAnswer T u v first ≡ At e)) ⊎ (earliestAnswer T u v first ≡ Nothing)
+  earliest-told : (u v first : ℕ) → IsPair n u v → 1 ≤ first → first ≤ τ + δ → Told (earliestAnswer T u v first)
   unfolding earliestAnswer
-  earliest-told u v first p h k = tick-told (momentRefusal T u v first) _ (moment-asked f u v first p h k)
+  earliest-told u v first p h k = interval-told (momentRefusal T u v first) _ (moment-asked (valid-fresh f) u v first p h k)
 
-  latest-told : (u v last : ℕ) → IsPair n u v → 1 ≤ last → last ≤ τ + δ → ((e : ℕ) × (latestAnswer T u v last ≡ At e)) ⊎ (latestAnswer T u v last ≡ Nothing)
+  latest-told : (u v last : ℕ) → IsPair n u v → 1 ≤ last → last ≤ τ + δ → Told (latestAnswer T u v last)
   unfolding latestAnswer
-  latest-told u v last p h k = tick-told (momentRefusal T u v last) _ (moment-asked f u v last p h k)
+  latest-told u v last p h k = interval-told (momentRefusal T u v last) _ (moment-asked (valid-fresh f) u v last p h k)
 
   same-count : (u first last : ℕ) → u < n → IsWindow τ δ first last → Q .reached-count T u first last ≡ R .reached-count T u first last
   same-count u first last h w =
@@ -93,11 +98,11 @@ module _ {Q R : Questions} {n τ δ : ℕ} {S : Contacts} {T : List ℕ} (f : Fr
             same-ask (Q .reach T u v first last) (R .reach T u v first last)
             (a .reach-yes u v first last p w) (a .reach-no u v first last p w) (b .reach-yes u v first last p w) (b .reach-no u v first last p w);
         earliest = λ u v first p h k.
-            same-tick (Q .earliest T u v first) (R .earliest T u v first) (earliestAnswer T u v first) (earliest-told u v first p h k)
+            same-interval (Q .earliest T u v first) (R .earliest T u v first) (earliestAnswer T u v first) (earliest-told u v first p h k)
             (a .earliest-at u v first p h k) (a .earliest-none u v first p h k) (b .earliest-at u v first p h k) (b .earliest-none u v first p h k)
             (ours .earliest-at u v first p h k) (ours .earliest-none u v first p h k);
         latest = λ u v last p h k.
-            same-tick (Q .latest T u v last) (R .latest T u v last) (latestAnswer T u v last) (latest-told u v last p h k)
+            same-interval (Q .latest T u v last) (R .latest T u v last) (latestAnswer T u v last) (latest-told u v last p h k)
             (a .latest-at u v last p h k) (a .latest-none u v last p h k) (b .latest-at u v last p h k) (b .latest-none u v last p h k)
             (ours .latest-at u v last p h k) (ours .latest-none u v last p h k);
         connected = λ first last w.

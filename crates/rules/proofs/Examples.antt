@@ -1,7 +1,7 @@
 -- The worked examples hold: all that the rows say is computed at once, and one law reads off each.
 use mathlib.Core.Path.{_≡_, refl}
 use mathlib.Core.List.{List, map, List·Memᴰ}
-use Rattle.journeys.specs.Cell.{later, sooner, latestDeparture, earliestArrival, hasInside, withoutContaining, putInOrder, enter}
+use Rattle.journeys.specs.Cell.{later, sooner, latestDeparting, earliestArriving, latestDeparture, earliestArrival, hasInside, withoutContaining, putInOrder, enter}
 use Rattle.journeys.specs.Adding as Rule
 use Rattle.words.specs.Layout.{isOf}
 use Rattle.rules.specs.Folds.{flat, allBelow, sumBelow, countBelow}
@@ -30,7 +30,7 @@ all-hold l e s m = map-agree (λ (r : Row). gives (exampleTable s) (r .call)) (�
 computed : (map allGiven marked ≡ map allSaid marked) × (map allGiven worked ≡ map allSaid worked)
 unfolding
     openLeaves openRefusal tableWords flat cellWords run addLeaves addAnswer addRefusal isOpen isOf wellFormed allBelow cellWellFormed rowsWellFormed rowWellFormed allUnused
-    cellsOf cellAt cellOf addedCells Rule.add Rule.departureOf Rule.arrivalOf Rule.enterBoth enter putInOrder withoutContaining hasInside latestDeparture earliestArrival later sooner
+    cellsOf cellAt cellOf addedCells Rule.add Rule.departureOf Rule.arrivalOf Rule.enterBoth enter putInOrder withoutContaining hasInside latestDeparture earliestArrival latestDeparting earliestArriving later sooner
     stands holds sameCell cellsChanged sumBelow countBelow reaches reachRefusal reachAnswer momentRefusal earliestAnswer latestAnswer connects connectedRefusal connectedAnswer
     isReached setWord setWords reachedRefusal reachedAnswer reachedCount reachedLeaves departureWith leads lowest chainFrom chainOf chainRefusal chainAnswer chainLeaves
     heldWord formJourney spells claimedAnswer

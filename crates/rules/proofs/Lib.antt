@@ -11,6 +11,7 @@ pub mod Demand1
 pub mod Bits
 pub mod Asked
 pub mod Answered
+pub mod EarliestLatest
 pub mod Sorted
 pub mod Held
 pub mod Runs

@@ -5,7 +5,7 @@ use mathlib.Core.List.{List, [], _∷_, map}
 use Prim.Native.Nat.{ℕ, zero, suc, _<_}
 use native.Mathlib.Omega.{arith}
 use lib.ListN.{length, getD, length-map}
-use Rattle.journeys.specs.Cell.{later, sooner, latestDeparture, earliestArrival, hasInside, withoutContaining, putInOrder, enter}
+use Rattle.journeys.specs.Cell.{later, sooner, latestDeparting, earliestArriving, latestDeparture, earliestArrival, hasInside, withoutContaining, putInOrder, enter}
 use Rattle.journeys.specs.Adding.{departureOf, arrivalOf, enterBoth, add}
 use Rattle.words.specs.Layout.{isOf}
 use Rattle.rules.specs.declared.Question.{Question}
@@ -54,7 +54,7 @@ pub list-examples : ListExamples
 unfolding
     listAnswer listLeaves asked reachAnswer reachRefusal reaches run openRefusal openLeaves addRefusal addedCells addLeaves holds stands
     isOpen rowWellFormed rowsWellFormed allUnused cellWellFormed wellFormed flat allBelow cellWords tableWords cellAt cellOf cellsOf isOf add enterBoth departureOf arrivalOf
-    later sooner latestDeparture earliestArrival hasInside withoutContaining putInOrder enter
+    later sooner latestDeparting earliestArriving latestDeparture earliestArrival hasInside withoutContaining putInOrder enter
 list-examples =
     record {
       session-filled = refl;

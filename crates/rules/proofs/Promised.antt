@@ -6,6 +6,7 @@ use Rattle.rules.proofs.Demand3.{demand3}
 use Rattle.rules.proofs.LogsRead.{logs-read}
 use Rattle.rules.proofs.CountedCalls.{counted-rule}
 use Rattle.rules.proofs.ListRule.{list-rule, list-examples}
+use Rattle.rules.proofs.EarliestLatest.{stored-answers}
 use Rattle.rules.proofs.Claims.{claims-judged}
 use Rattle.rules.proofs.ChainShown.{named-chains}
 use Rattle.rules.proofs.SheetRule.{sheet-rule}
@@ -26,6 +27,7 @@ promised =
       logs-read = logs-read;
       counted-rule = counted-rule;
       list-rule = list-rule;
+      stored-answers = stored-answers;
       claims-judged = claims-judged;
       named-chains = named-chains;
       sheet-rule = sheet-rule;

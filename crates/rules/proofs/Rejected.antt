@@ -7,7 +7,7 @@ use Prim.Native.Nat.{ℕ, zero, suc, _+_, _≤_}
 use native.Mathlib.Omega.{arith}
 use lib.ListN.{length, getD, replicate}
 use Rattle.journeys.specs.Journey.{Contact, contact, Interval, interval}
-use Rattle.journeys.specs.Cell.{later, sooner, latestDeparture, earliestArrival, hasInside, withoutContaining, putInOrder, enter}
+use Rattle.journeys.specs.Cell.{later, sooner, latestDeparting, earliestArriving, latestDeparture, earliestArrival, hasInside, withoutContaining, putInOrder, enter}
 use Rattle.journeys.specs.Adding.{departureOf, arrivalOf, enterBoth, add}
 use Rattle.journeys.proofs.Tests.{never}
 use Rattle.words.specs.Layout.{isOf}
@@ -80,7 +80,7 @@ same-logged : (E : Engine) → Demand3 E → E .open-answer 3 2 1 blank ≡ Open
 same-logged E d p i = ap (λ (l : List ℕ). getD l i 0) (agree E d p twice .log twice twice-sorted twice-legal (replicate 6 0) (omega arith))
 
 pub rejected : Rejected
-unfolding openAnswer openLeaves openRefusal tableWords flat cellWords run addLeaves addAnswer addRefusal isOpen isOf wellFormed allBelow cellWellFormed rowsWellFormed rowWellFormed allUnused cellsOf cellAt cellOf addedCells add departureOf arrivalOf enterBoth enter putInOrder withoutContaining hasInside latestDeparture earliestArrival later sooner stands holds cellsChanged sumBelow countBelow sameCell held heldContacts logWords writeRefusal writeAnswer writeLeaves
+unfolding openAnswer openLeaves openRefusal tableWords flat cellWords run addLeaves addAnswer addRefusal isOpen isOf wellFormed allBelow cellWellFormed rowsWellFormed rowWellFormed allUnused cellsOf cellAt cellOf addedCells add departureOf arrivalOf enterBoth enter putInOrder withoutContaining hasInside latestDeparture earliestArrival latestDeparting earliestArriving later sooner stands holds cellsChanged sumBelow countBelow sameCell held heldContacts logWords writeRefusal writeAnswer writeLeaves
 rejected =
     record {
       leaves-table = λ d. (let w : _≡_ {A = ℕ} 0xC000_0000 0xC000_0001 = same-word leavesTable d refl (contact 0 2 1 ∷ []) 7 in omega arith);
@@ -117,7 +117,7 @@ not-there : (i j : Interval) → (i .departure ≡ j .departure → ⊥) → Lis
 not-there i j h m = ⊎-elim (λ e. h (ap (λ (k : Interval). k .departure) e)) List·Memᴰ·not-nil (List·Memᴰ·cases-cons m)
 
 pub rejected-tables : RejectedTables
-unfolding openAnswer openLeaves openRefusal tableWords flat cellWords run addLeaves addRefusal isOpen isOf wellFormed allBelow cellWellFormed rowsWellFormed rowWellFormed allUnused cellsOf cellAt cellOf addedCells add departureOf arrivalOf enterBoth enter putInOrder withoutContaining hasInside latestDeparture earliestArrival later sooner
+unfolding openAnswer openLeaves openRefusal tableWords flat cellWords run addLeaves addRefusal isOpen isOf wellFormed allBelow cellWellFormed rowsWellFormed rowWellFormed allUnused cellsOf cellAt cellOf addedCells add departureOf arrivalOf enterBoth enter putInOrder withoutContaining hasInside latestDeparture earliestArrival latestDeparting earliestArriving later sooner
 rejected-tables =
     record {
       leaves-table = λ Q d. List·Memᴰ·not-nil (same-stored leavesTable Q d refl (contact 0 2 1 ∷ []) 0 2 pair-02 (interval 1 2) .1 (List·Memᴰ·head refl));

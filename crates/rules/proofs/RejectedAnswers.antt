@@ -3,18 +3,18 @@ use mathlib.Core.Path.{_≡_, refl, sym, ap, _∙_, subst}
 use mathlib.Core.Logic.{_↔_}
 use mathlib.Core.Bool.{Bool, true, false, cond}
 use mathlib.Core.List.{List, [], _∷_, List·Memᴰ, List·Memᴰ·not-nil}
-use Prim.Native.Nat.{ℕ, zero, suc, _+_, _≤_, _<_}
+use Prim.Native.Nat.{ℕ, zero, suc, _+_, _*_, _≤_, _<_}
 use native.Mathlib.Omega.{arith}
 use lib.ListN.{length, getD, replicate}
 use Rattle.journeys.specs.Journey.{Contact, contact, Contacts}
-use Rattle.journeys.specs.Cell.{later, sooner, latestDeparture, earliestArrival, hasInside, withoutContaining, putInOrder, enter}
+use Rattle.journeys.specs.Cell.{later, sooner, latestDeparting, earliestArriving, latestDeparture, earliestArrival, hasInside, withoutContaining, putInOrder, enter}
 use Rattle.journeys.specs.Adding.{departureOf, arrivalOf, enterBoth, add}
 use Rattle.words.specs.Layout.{isOf}
 use Rattle.words.specs.Words.{contactOf}
 use Rattle.rules.specs.declared.AskAnswer.{AskAnswer}
 use Rattle.rules.specs.declared.AskAnswer.the-variants.{Yes, No, Refused as AskRefused}
-use Rattle.rules.specs.declared.TickAnswer.{TickAnswer}
-use Rattle.rules.specs.declared.TickAnswer.the-variants.{At, Nothing, Refused as TickRefused}
+use Rattle.rules.specs.declared.IntervalAnswer.{IntervalAnswer}
+use Rattle.rules.specs.declared.IntervalAnswer.the-variants.{At, Nothing, Refused as IntervalRefused}
 use Rattle.rules.specs.Folds.{flat, allBelow, sumBelow, countBelow}
 use Rattle.rules.specs.Layout.{cellWords, tableWords, cellAt, cellOf, cellsOf}
 use Rattle.rules.specs.Checks.{isOpen, rowWellFormed, rowsWellFormed, allUnused, cellWellFormed, wellFormed}
@@ -22,24 +22,27 @@ use Rattle.rules.specs.Opening.{openRefusal, openAnswer, openLeaves}
 use Rattle.rules.specs.Adding.{stands, addRefusal, addedCells, addLeaves}
 use Rattle.rules.specs.Adding as Adding
 use Rattle.rules.specs.Chains.{departureWith, leads, lowest, chainFrom, chainOf, chainRefusal, chainLeaves}
-use Rattle.rules.specs.Questions.{reaches, reachRefusal, reachAnswer, momentRefusal, earliestAnswer, connects, connectedRefusal, connectedAnswer, isReached, setWord, setWords, reachedRefusal, reachedWords, reachedCount}
+use Rattle.rules.specs.Questions.{reaches, reachRefusal, reachAnswer, momentRefusal, earliestAnswer, latestAnswer, connects, connectedRefusal, connectedAnswer, isReached, setWord, setWords, reachedRefusal, reachedWords, reachedCount}
 use Rattle.rules.specs.Fresh.{Fresh}
 use Rattle.rules.specs.CallLists.{Engine, engine, run, tableAfter, LegalOf}
 use Rattle.rules.specs.Windows.{IsWindow, IsPair}
 use Rattle.rules.specs.Demand2.{Questions, questions, BitSet, AnsweredOn, Demand2}
 use Rattle.rules.specs.Determined.{AgreeOn}
-use Rattle.rules.specs.WrongAnswers.{alwaysNo, alwaysYes, endsLater, beginsLater, neverArrives, alwaysConnected, reachesNobody, countsNobody, firstOf, chainFromOf, downFrom, neverChained, highestAnimal, loadingOrder, RejectedAnswers}
+use Rattle.rules.specs.WrongAnswers.{alwaysNo, alwaysYes, endsLater, beginsLater, neverArrives, neverDeparts, departsAfterFirst, arrivesBeforeLast, lastOfCell, otherDeparture, laterArrival, otherArrival, earlierDeparture, departingBefore, arrivingAfter, rowBefore, rowBehind, alwaysConnected, reachesNobody, countsNobody, firstOf, chainFromOf, downFrom, neverChained, highestAnimal, loadingOrder, RejectedAnswers}
 use Rattle.rules.proofs.Runs.{run-fresh}
 use Rattle.rules.proofs.Demand2.{demand2}
 use Rattle.rules.proofs.DeterminedAnswers.{agree-on, determined-answers}
 
--- The table of two animals, two ticks and carry time 1 after the contact (0, 1, 1).
-abbrev table : List ℕ
-table = tableAfter engine 2 2 1 (replicate 13 0) (contact 0 1 1 ∷ [])
+-- The table of two animals, two ticks and carry time 1 after the contacts (0, 1, 1) and (0, 1, 2): cell (0, 1) has [1, 2] and [2, 3].
+abbrev met : List Contact
+met = contact 0 1 1 ∷ contact 0 1 2 ∷ []
 
-table-fresh : Fresh 2 2 1 (LegalOf 2 2 (contact 0 1 1 ∷ [])) table
+abbrev table : List ℕ
+table = tableAfter engine 2 2 1 (replicate 13 0) met
+
+table-fresh : Fresh 2 2 1 (LegalOf 2 2 met) table
 unfolding openRefusal
-table-fresh = run-fresh 2 2 1 (replicate 13 0) (contact 0 1 1 ∷ []) refl
+table-fresh = run-fresh 2 2 1 (replicate 13 0) met refl
 
 pair : IsPair 2 0 1
 pair = record { from-below = omega arith; to-below = omega arith; apart = λ e. omega arith }
@@ -56,21 +59,24 @@ told Yes = 1
 told No = 2
 told (AskRefused r) = 0
 
-abbrev ticked : TickAnswer → ℕ
-ticked (At t) = suc t
-ticked Nothing = 0
-ticked (TickRefused r) = 0
+abbrev found : IntervalAnswer → ℕ
+found (At e) = e .departure * 10 + e .arrival
+found Nothing = 0
+found (IntervalRefused r) = 0
 
 -- Questions that meet the demand answer on this table as document 01's do.
 module _ (E : Engine) (Q : Questions) (d : Demand2 E Q) where
   agree : AgreeOn Q questions 2 2 1 table
-  agree = determined-answers E engine Q questions d demand2 .answers 2 2 1 (LegalOf 2 2 (contact 0 1 1 ∷ [])) table table-fresh
+  agree = determined-answers E engine Q questions d demand2 .answers 2 2 1 (LegalOf 2 2 met) table table-fresh
 
   same-reach : (first last : ℕ) → 1 ≤ first → first ≤ last → last ≤ 3 → told (Q .reach table 0 1 first last) ≡ told (reachAnswer table 0 1 first last)
   same-reach first last h k l = ap told (agree .reach 0 1 first last pair (windowed first last h k l))
 
-  same-earliest : ticked (Q .earliest table 0 1 1) ≡ ticked (earliestAnswer table 0 1 1)
-  same-earliest = ap ticked (agree .earliest 0 1 1 pair (omega arith) (omega arith))
+  same-earliest : (first : ℕ) → 1 ≤ first → first ≤ 3 → found (Q .earliest table 0 1 first) ≡ found (earliestAnswer table 0 1 first)
+  same-earliest first h k = ap found (agree .earliest 0 1 first pair h k)
+
+  same-latest : (last : ℕ) → 1 ≤ last → last ≤ 3 → found (Q .latest table 0 1 last) ≡ found (latestAnswer table 0 1 last)
+  same-latest last h k = ap found (agree .latest 0 1 last pair h k)
 
   same-connected : told (Q .connected table 1 3) ≡ told (connectedAnswer table 1 3)
   same-connected = ap told (agree .connected 1 3 whole)
@@ -107,14 +113,23 @@ abbrev goesTo : List ℕ → ℕ
 goesTo B = contactOf (getD B 0 0) .to
 
 pub rejected-answers : RejectedAnswers
-unfolding openAnswer openLeaves openRefusal tableWords flat cellWords run addLeaves addRefusal isOpen isOf wellFormed allBelow cellWellFormed rowsWellFormed rowWellFormed allUnused cellsOf cellAt cellOf addedCells add departureOf arrivalOf enterBoth enter putInOrder withoutContaining hasInside latestDeparture earliestArrival later sooner reaches reachRefusal reachAnswer momentRefusal earliestAnswer connects connectedRefusal connectedAnswer isReached setWord setWords sumBelow reachedRefusal reachedWords reachedCount countBelow departureWith leads lowest chainFrom chainOf chainRefusal chainLeaves firstOf chainFromOf downFrom stands Adding.holds
+unfolding openAnswer openLeaves openRefusal tableWords flat cellWords run addLeaves addRefusal isOpen isOf wellFormed allBelow cellWellFormed rowsWellFormed rowWellFormed allUnused cellsOf cellAt cellOf addedCells add departureOf arrivalOf enterBoth enter putInOrder withoutContaining hasInside latestDeparture earliestArrival latestDeparting earliestArriving later sooner reaches reachRefusal reachAnswer momentRefusal earliestAnswer latestAnswer lastOfCell departingBefore arrivingAfter connects connectedRefusal connectedAnswer isReached setWord setWords sumBelow reachedRefusal reachedWords reachedCount countBelow departureWith leads lowest chainFrom chainOf chainRefusal chainLeaves firstOf chainFromOf downFrom stands Adding.holds
 rejected-answers =
     record {
       always-no = λ E d. (let z : _≡_ {A = ℕ} 2 1 = same-reach E alwaysNo d 1 2 (omega arith) (omega arith) (omega arith) in omega arith);
       always-yes = λ E d. (let z : _≡_ {A = ℕ} 1 2 = same-reach E alwaysYes d 1 1 (omega arith) (omega arith) (omega arith) in omega arith);
       ends-later = λ E d. (let z : _≡_ {A = ℕ} 1 2 = same-reach E endsLater d 1 1 (omega arith) (omega arith) (omega arith) in omega arith);
       begins-later = λ E d. (let z : _≡_ {A = ℕ} 2 1 = same-reach E beginsLater d 1 2 (omega arith) (omega arith) (omega arith) in omega arith);
-      never-arrives = λ E d. (let z : _≡_ {A = ℕ} 0 3 = same-earliest E neverArrives d in omega arith);
+      never-arrives = λ E d. (let z : _≡_ {A = ℕ} 0 12 = same-earliest E neverArrives d 1 (omega arith) (omega arith) in omega arith);
+      never-departs = λ E d. (let z : _≡_ {A = ℕ} 0 23 = same-latest E neverDeparts d 3 (omega arith) (omega arith) in omega arith);
+      departs-after-first = λ E d. (let z : _≡_ {A = ℕ} 23 12 = same-earliest E departsAfterFirst d 1 (omega arith) (omega arith) in omega arith);
+      arrives-before-last = λ E d. (let z : _≡_ {A = ℕ} 12 23 = same-latest E arrivesBeforeLast d 3 (omega arith) (omega arith) in omega arith);
+      other-departure = λ E d. (let z : _≡_ {A = ℕ} 13 23 = same-earliest E otherDeparture d 2 (omega arith) (omega arith) in omega arith);
+      later-arrival = λ E d. (let z : _≡_ {A = ℕ} 13 12 = same-earliest E laterArrival d 1 (omega arith) (omega arith) in omega arith);
+      other-arrival = λ E d. (let z : _≡_ {A = ℕ} 13 12 = same-latest E otherArrival d 2 (omega arith) (omega arith) in omega arith);
+      earlier-departure = λ E d. (let z : _≡_ {A = ℕ} 13 23 = same-latest E earlierDeparture d 3 (omega arith) (omega arith) in omega arith);
+      row-before = λ E d. (let z : _≡_ {A = ℕ} 12 23 = same-earliest E rowBefore d 2 (omega arith) (omega arith) in omega arith);
+      row-behind = λ E d. (let z : _≡_ {A = ℕ} 23 12 = same-latest E rowBehind d 2 (omega arith) (omega arith) in omega arith);
       always-connected = λ E d. (let z : _≡_ {A = ℕ} 1 2 = same-connected E alwaysConnected d in omega arith);
       reaches-nobody = λ E d. (let z : _≡_ {A = ℕ} 0 1 = same-bit E reachesNobody d refl in omega arith);
       counts-nobody = λ E d. (let z : _≡_ {A = ℕ} 0 1 = same-count E countsNobody d in omega arith);

@@ -1,6 +1,6 @@
 -- Document 01's session: the text printed for its log.
 use mathlib.Core.Path.{_≡_, refl}
-use Rattle.journeys.specs.Cell.{later, sooner, latestDeparture, earliestArrival, hasInside, withoutContaining, putInOrder, enter}
+use Rattle.journeys.specs.Cell.{later, sooner, latestDeparting, earliestArriving, latestDeparture, earliestArrival, hasInside, withoutContaining, putInOrder, enter}
 use Rattle.journeys.specs.Adding.{departureOf, arrivalOf, enterBoth, add}
 use Rattle.words.specs.Layout.{isOf}
 use Rattle.rules.specs.Folds.{flat, allBelow}
@@ -19,5 +19,5 @@ unfolding
     sheetText wordsOf isBeyond logText readAnswer readLeaves readRefusal between loggedContacts isTrueEnd isLegal logWord ensureWords
     tableText firstLine cellText intervalsText intervalText decimalWithin heldContacts held run openRefusal openLeaves addRefusal addedCells addLeaves holds stands
     isOpen rowWellFormed rowsWellFormed allUnused cellWellFormed wellFormed flat allBelow cellWords tableWords cellAt cellOf cellsOf isOf add enterBoth departureOf arrivalOf
-    later sooner latestDeparture earliestArrival hasInside withoutContaining putInOrder enter
+    later sooner latestDeparting earliestArriving latestDeparture earliestArrival hasInside withoutContaining putInOrder enter
 session-printed = refl

@@ -2,6 +2,7 @@
 use Prim.Native.Nat.{ℕ, _+_, _*_, _^_}
 use mathlib.Core.Option.{Option, none, some}
 use mathlib.Core.Bool.{Bool, true, false}
+use Rattle.journeys.specs.Journey.{Interval}
 use Rattle.rules.specs.declared.Refusal.{Refusal}
 use Rattle.rules.specs.declared.Refusal.the-variants.{AnimalsBeyondLimit, TicksBeyondLimit, CarryBeyondLimit, WrongLength, NotOpen, NotWellFormed, NoSuchAnimal, SameAnimal, TickOutOfRange, ChainBufferTooShort, NotALog, NotAContact, IllegalContact, WrongEnd, LogBufferTooShort, TallyFull}
 use Rattle.rules.specs.declared.OpenAnswer.{OpenAnswer}
@@ -14,8 +15,9 @@ use Rattle.rules.specs.declared.ReadAnswer.{ReadAnswer}
 use Rattle.rules.specs.declared.ReadAnswer.the-variants.{Read, Refused as ReadRefused}
 use Rattle.rules.specs.declared.AskAnswer.{AskAnswer}
 use Rattle.rules.specs.declared.AskAnswer.the-variants.{Yes, No, Refused as AskRefused}
-use Rattle.rules.specs.declared.TickAnswer.{TickAnswer}
-use Rattle.rules.specs.declared.TickAnswer.the-variants.{At, Nothing, Refused as TickRefused}
+use Rattle.rules.specs.declared.Ends.{Ends}
+use Rattle.rules.specs.declared.IntervalAnswer.{IntervalAnswer}
+use Rattle.rules.specs.declared.IntervalAnswer.the-variants.{At, Nothing, Refused as IntervalRefused}
 use Rattle.rules.specs.declared.SetAnswer.{SetAnswer}
 use Rattle.rules.specs.declared.SetAnswer.the-variants.{Found, Refused as SetRefused}
 use Rattle.rules.specs.declared.ChainAnswer.{ChainAnswer}
@@ -77,11 +79,11 @@ askReply Yes = reply 1 0
 askReply No = reply 2 0
 askReply (AskRefused r) = reply 0 (numberOf r)
 
--- 1 found, with the tick, 2 none.
-abbrev pub tickReply : TickAnswer → ℕ
-tickReply (At t) = reply 1 t
-tickReply Nothing = reply 2 0
-tickReply (TickRefused r) = reply 0 (numberOf r)
+-- 1 found, with departure · 2¹⁶ + arrival, 2 none.
+abbrev pub intervalReply : IntervalAnswer → ℕ
+intervalReply (At e) = reply 1 (e .departure * 2 ^ 16 + e .arrival)
+intervalReply Nothing = reply 2 0
+intervalReply (IntervalRefused r) = reply 0 (numberOf r)
 
 -- 1 a set, with its count.
 abbrev pub setReply : SetAnswer → ℕ → ℕ
@@ -140,8 +142,12 @@ askAnswerOf none true = Yes
 askAnswerOf none false = No
 askAnswerOf (some r) b = AskRefused r
 
--- The tick, where there is one.
-abbrev pub tickAnswerOf : Option Refusal → Option ℕ → TickAnswer
-tickAnswerOf none none = Nothing
-tickAnswerOf none (some t) = At t
-tickAnswerOf (some r) t = TickRefused r
+-- An interval as an answer carries it.
+abbrev pub ends : Interval → Ends
+ends i = record { departure = i .departure; arrival = i .arrival }
+
+-- The whole interval, where there is one.
+abbrev pub intervalAnswerOf : Option Refusal → Option Interval → IntervalAnswer
+intervalAnswerOf none none = Nothing
+intervalAnswerOf none (some i) = At (ends i)
+intervalAnswerOf (some r) i = IntervalRefused r

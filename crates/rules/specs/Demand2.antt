@@ -8,8 +8,9 @@ use Rattle.journeys.specs.Journey.{Contact, Contacts, Interval, interval, Journ
 use Rattle.rules.specs.Limits.{maxAnimals}
 use Rattle.rules.specs.declared.AskAnswer.{AskAnswer}
 use Rattle.rules.specs.declared.AskAnswer.the-variants.{Yes, No}
-use Rattle.rules.specs.declared.TickAnswer.{TickAnswer}
-use Rattle.rules.specs.declared.TickAnswer.the-variants.{At, Nothing}
+use Rattle.rules.specs.declared.Ends.{Ends}
+use Rattle.rules.specs.declared.IntervalAnswer.{IntervalAnswer}
+use Rattle.rules.specs.declared.IntervalAnswer.the-variants.{At, Nothing}
 use Rattle.words.specs.Words.{contactWord}
 use Rattle.rules.specs.declared.SetAnswer.{SetAnswer}
 use Rattle.rules.specs.declared.SetAnswer.the-variants.{Found}
@@ -22,14 +23,15 @@ use Rattle.rules.specs.Fresh.{Fresh}
 use Rattle.rules.specs.CallLists.{Engine, tableAfter, LegalOf}
 use Rattle.rules.specs.Orders.{Sorted}
 use Rattle.rules.specs.Windows.{IsWindow, IsPair, Fits}
+use Rattle.rules.specs.EarliestLatest.{Earliest, Latest, NoneDeparts, NoneArrives}
 use Rattle.rules.specs.Chains.{chainAnswer, chainLeaves}
 use Rattle.rules.specs.ChainRule.{NamedChain}
 
 -- What the questions answer, and the words that a chain leaves in its buffer.
 pub record Questions : Type 0 where
   pub reach : List ℕ → ℕ → ℕ → ℕ → ℕ → AskAnswer
-  pub earliest : List ℕ → ℕ → ℕ → ℕ → TickAnswer
-  pub latest : List ℕ → ℕ → ℕ → ℕ → TickAnswer
+  pub earliest : List ℕ → ℕ → ℕ → ℕ → IntervalAnswer
+  pub latest : List ℕ → ℕ → ℕ → ℕ → IntervalAnswer
   pub connected : List ℕ → ℕ → ℕ → AskAnswer
   pub reached : List ℕ → ℕ → ℕ → ℕ → SetAnswer
   pub reached-words : List ℕ → ℕ → ℕ → ℕ → List ℕ
@@ -58,20 +60,6 @@ questions =
 abbrev pub StoredIn : ℕ → ℕ → List ℕ → ℕ → ℕ → Interval → Type 0
 StoredIn n τ T u v i = List·Memᴰ i (cellOf (cellAt n τ T u v))
 
--- Tick e is the least arrival of the journeys from u to v that depart at or after first.
-pub record Earliest (S : Contacts) (δ u v first e : ℕ) : Type 0 where
-  pub departure : ℕ
-  pub journey : Journey S δ u v (interval departure e)
-  pub departs : first ≤ departure
-  pub least : (i : Interval) → Journey S δ u v i → first ≤ i .departure → e ≤ i .arrival
-
--- Tick d is the greatest departure of the journeys from u to v that arrive by last.
-pub record Latest (S : Contacts) (δ u v last d : ℕ) : Type 0 where
-  pub arrival : ℕ
-  pub journey : Journey S δ u v (interval d arrival)
-  pub arrives : arrival ≤ last
-  pub greatest : (i : Interval) → Journey S δ u v i → i .arrival ≤ last → i .departure ≤ d
-
 -- Every ordered pair of different animals has a journey that fits.
 abbrev pub AllFit : Contacts → ℕ → ℕ → ℕ → ℕ → Type 0
 AllFit S δ n first last = (u v : ℕ) → IsPair n u v → Fits S δ u v first last
@@ -94,14 +82,16 @@ module _ (Q : Questions) (n τ δ : ℕ) (S : Contacts) (T : List ℕ) where
     -- "A question is answered yes when a journey fits its window and no when none does."
     pub reach-yes : (u v first last : ℕ) → IsPair n u v → IsWindow τ δ first last → (Q .reach T u v first last ≡ Yes) ↔ Fits S δ u v first last
     pub reach-no : (u v first last : ℕ) → IsPair n u v → IsWindow τ δ first last → (Q .reach T u v first last ≡ No) ↔ (¬ Fits S δ u v first last)
-    -- Earliest arrival from a first tick: the least arrival of fitting journeys, none exactly when none fits.
-    pub earliest-at : (u v first : ℕ) → IsPair n u v → 1 ≤ first → first ≤ τ + δ → (e : ℕ) → (Q .earliest T u v first ≡ At e) ↔ Earliest S δ u v first e
-    pub earliest-none : (u v first : ℕ) → IsPair n u v → 1 ≤ first → first ≤ τ + δ
-        → (Q .earliest T u v first ≡ Nothing) ↔ ((i : Interval) → Journey S δ u v i → ¬ (first ≤ i .departure))
-    -- Latest departure by a last tick: the greatest departure of fitting journeys, none exactly when none fits.
-    pub latest-at : (u v last : ℕ) → IsPair n u v → 1 ≤ last → last ≤ τ + δ → (d : ℕ) → (Q .latest T u v last ≡ At d) ↔ Latest S δ u v last d
-    pub latest-none : (u v last : ℕ) → IsPair n u v → 1 ≤ last → last ≤ τ + δ
-        → (Q .latest T u v last ≡ Nothing) ↔ ((i : Interval) → Journey S δ u v i → ¬ (i .arrival ≤ last))
+    -- Earliest arrival from a first tick: [a, b] exactly when it is minimal for the pair, departs at or after first, and no journey that
+    -- departs at or after first arrives before b; none exactly when no journey departs then.
+    pub earliest-at : (u v first : ℕ) → IsPair n u v → 1 ≤ first → first ≤ τ + δ
+        → (e : Ends) → (Q .earliest T u v first ≡ At e) ↔ Earliest (Minimal S δ u v) (Journey S δ u v) first (interval (e .departure) (e .arrival))
+    pub earliest-none : (u v first : ℕ) → IsPair n u v → 1 ≤ first → first ≤ τ + δ → (Q .earliest T u v first ≡ Nothing) ↔ NoneDeparts (Journey S δ u v) first
+    -- Latest departure by a last tick: [a, b] exactly when it is minimal for the pair, arrives by last, and no journey that arrives by last
+    -- departs after a; none exactly when no journey arrives by then.
+    pub latest-at : (u v last : ℕ) → IsPair n u v → 1 ≤ last → last ≤ τ + δ
+        → (e : Ends) → (Q .latest T u v last ≡ At e) ↔ Latest (Minimal S δ u v) (Journey S δ u v) last (interval (e .departure) (e .arrival))
+    pub latest-none : (u v last : ℕ) → IsPair n u v → 1 ≤ last → last ≤ τ + δ → (Q .latest T u v last ≡ Nothing) ↔ NoneArrives (Journey S δ u v) last
     -- Connected: yes exactly when each animal reaches each other one in the window.
     pub connected-yes : (first last : ℕ) → IsWindow τ δ first last → (Q .connected T first last ≡ Yes) ↔ AllFit S δ n first last
     pub connected-no : (first last : ℕ) → IsWindow τ δ first last → (Q .connected T first last ≡ No) ↔ (¬ AllFit S δ n first last)

@@ -12,8 +12,8 @@ use Rattle.rules.specs.declared.AddAnswer.{AddAnswer}
 use Rattle.rules.specs.declared.AddAnswer.the-variants.{New, Known, Refused as AddRefused}
 use Rattle.rules.specs.declared.AskAnswer.{AskAnswer}
 use Rattle.rules.specs.declared.AskAnswer.the-variants.{Yes, No, Refused as AskRefused}
-use Rattle.rules.specs.declared.TickAnswer.{TickAnswer}
-use Rattle.rules.specs.declared.TickAnswer.the-variants.{At, Nothing, Refused as TickRefused}
+use Rattle.rules.specs.declared.IntervalAnswer.{IntervalAnswer}
+use Rattle.rules.specs.declared.IntervalAnswer.the-variants.{At, Nothing, Refused as IntervalRefused}
 use Rattle.rules.specs.declared.SetAnswer.{SetAnswer}
 use Rattle.rules.specs.declared.SetAnswer.the-variants.{Found, Refused as SetRefused}
 use Rattle.rules.specs.declared.ChainAnswer.{ChainAnswer}
@@ -41,7 +41,7 @@ pub data Call : Type 0 where
 pub data Given : Type 0 where
   intervals : Cell → Given
   asked : AskAnswer → Given
-  ticked : TickAnswer → Given
+  found : IntervalAnswer → Given
   set : SetAnswer → (count : ℕ) → (left : List ℕ) → Given
   chained : ChainAnswer → (left : List ℕ) → Given
   added : AddAnswer → Given
@@ -50,8 +50,8 @@ pub data Given : Type 0 where
 abbrev pub gives : List ℕ → Call → Given
 gives T (cell u v) = intervals (cellsOf T u v)
 gives T (reach u v first last) = asked (reachAnswer T u v first last)
-gives T (earliest u v first) = ticked (earliestAnswer T u v first)
-gives T (latest u v last) = ticked (latestAnswer T u v last)
+gives T (earliest u v first) = found (earliestAnswer T u v first)
+gives T (latest u v last) = found (latestAnswer T u v last)
 gives T (connected first last) = asked (connectedAnswer T first last)
 gives T (reached u first last B) = set (reachedAnswer T u first last) (reachedCount T u first last) (reachedLeaves T u first last B)
 gives T (chain u v first last B) = chained (chainAnswer T u v first last B) (chainLeaves T u v first last B)
@@ -98,10 +98,10 @@ marked =
           ∷ is (reach 0 3 1 4) (asked No)
           ∷ is (reach 0 3 3 7) (asked No)
           ∷ is (reach 3 0 1 7) (asked No)
-          ∷ is (earliest 0 3 2) (ticked (At 5))
-          ∷ is (earliest 0 3 3) (ticked Nothing)
-          ∷ is (latest 0 3 5) (ticked (At 2))
-          ∷ is (latest 0 3 4) (ticked Nothing)
+          ∷ is (earliest 0 3 2) (found (At (record { departure = 2; arrival = 5 })))
+          ∷ is (earliest 0 3 3) (found Nothing)
+          ∷ is (latest 0 3 5) (found (At (record { departure = 2; arrival = 5 })))
+          ∷ is (latest 0 3 4) (found Nothing)
           ∷ is (chain 0 3 1 7 (91 ∷ 92 ∷ 93 ∷ 94 ∷ [])) (chained (Chain 2) (contactWord (contact 0 1 2) ∷ contactWord (contact 1 3 4) ∷ 93 ∷ 94 ∷ []))
           ∷ [];
     }
@@ -150,8 +150,8 @@ worked =
           ∷ is (reach 0 3 1 7) (asked Yes)
           ∷ is (reach 0 3 1 8) (asked (AskRefused TickOutOfRange))
           ∷ is (reach 0 3 5 2) (asked (AskRefused TickOutOfRange))
-          ∷ is (earliest 0 3 8) (ticked (TickRefused TickOutOfRange))
-          ∷ is (latest 0 4 5) (ticked (TickRefused NoSuchAnimal))
+          ∷ is (earliest 0 3 8) (found (IntervalRefused TickOutOfRange))
+          ∷ is (latest 0 4 5) (found (IntervalRefused NoSuchAnimal))
           ∷ is (chain 0 3 3 7 (91 ∷ 92 ∷ 93 ∷ [])) (chained NoJourney (91 ∷ 92 ∷ 93 ∷ []))
           ∷ is (chain 0 3 1 7 (91 ∷ 92 ∷ [])) (chained (ChainRefused ChainBufferTooShort) (91 ∷ 92 ∷ []))
           ∷ is (add 0 1 6) (added (New 1))

@@ -13,6 +13,8 @@ pub mod Reading
 pub mod Counting
 pub mod Windows
 pub mod Questions
+pub mod EarliestLatest
+pub mod StoredAnswers
 pub mod QuestionList
 pub mod Chains
 pub mod Claims

@@ -7,6 +7,7 @@ use Rattle.rules.specs.Demand3.{Demand3}
 use Rattle.rules.specs.LogsRead.{LogsRead}
 use Rattle.rules.specs.CountedCalls.{CountedRule}
 use Rattle.rules.specs.ListRule.{ListRule, ListExamples}
+use Rattle.rules.specs.StoredAnswers.{StoredAnswers}
 use Rattle.rules.specs.Claims.{ClaimsJudged}
 use Rattle.rules.specs.NamedChains.{NamedChains}
 use Rattle.rules.specs.Sheet.{sheetText}
@@ -23,10 +24,12 @@ pub record Promised : Type 1 where
   pub demand1 : Demand1
   pub demand2 : Demand2 engine questions
   pub demand3 : Demand3 engine
-  -- What document 01 says beside them: reading a log, counted adds, lists of questions, claimed chains, the chain named, the sheet.
+  -- What documents 01 and 02 say beside them: reading a log, counted adds, lists of questions, the earliest arrival and the latest departure on
+  -- tables that no adds built, claimed chains, the chain named, the sheet.
   pub logs-read : LogsRead
   pub counted-rule : CountedRule
   pub list-rule : ListRule
+  pub stored-answers : StoredAnswers
   pub claims-judged : ClaimsJudged
   pub named-chains : NamedChains
   pub sheet-rule : SheetRule

@@ -5,14 +5,14 @@ use mathlib.Core.Option.{Option, none, some}
 use mathlib.Core.List.{List, [], _∷_, _++_}
 use lib.ListN.{length, take, drop, replicate}
 use lib.Dec.{ltb, eqb}
-use Rattle.journeys.specs.Cell.{hasInside, latestDeparture, earliestArrival}
+use Rattle.journeys.specs.Cell.{hasInside, latestDeparting, earliestArriving}
 use Rattle.rules.specs.declared.Refusal.{Refusal}
 use Rattle.rules.specs.declared.Refusal.the-variants.{NoSuchAnimal}
 use Rattle.rules.specs.declared.AskAnswer.{AskAnswer}
-use Rattle.rules.specs.declared.TickAnswer.{TickAnswer}
+use Rattle.rules.specs.declared.IntervalAnswer.{IntervalAnswer}
 use Rattle.rules.specs.declared.SetAnswer.{SetAnswer}
 use Rattle.rules.specs.declared.SetAnswer.the-variants.{Found, Refused}
-use Rattle.rules.specs.Answers.{ensure, unless, askAnswerOf, tickAnswerOf}
+use Rattle.rules.specs.Answers.{ensure, unless, askAnswerOf, intervalAnswerOf}
 use Rattle.rules.specs.Folds.{allBelow, sumBelow, countBelow}
 use Rattle.rules.specs.Layout.{animals, cellsOf}
 use Rattle.rules.specs.Checks.{ensureTable}
@@ -42,11 +42,13 @@ reachAnswer T u v first last = askAnswerOf (reachRefusal T u v first last) (reac
 unfoldable pub momentRefusal : List ℕ → ℕ → ℕ → ℕ → Option Refusal
 momentRefusal T u v t = ensureTable T (ensurePair T u v (ensureMoment T t none))
 
-unfoldable pub earliestAnswer : List ℕ → ℕ → ℕ → ℕ → TickAnswer
-earliestAnswer T u v first = tickAnswerOf (momentRefusal T u v first) (earliestArrival (cellsOf T u v) first)
+-- The interval of the pair with the earliest arrival, of those that depart at or after first.
+unfoldable pub earliestAnswer : List ℕ → ℕ → ℕ → ℕ → IntervalAnswer
+earliestAnswer T u v first = intervalAnswerOf (momentRefusal T u v first) (earliestArriving (cellsOf T u v) first)
 
-unfoldable pub latestAnswer : List ℕ → ℕ → ℕ → ℕ → TickAnswer
-latestAnswer T u v last = tickAnswerOf (momentRefusal T u v last) (latestDeparture (cellsOf T u v) last)
+-- The interval of the pair with the latest departure, of those that arrive by last.
+unfoldable pub latestAnswer : List ℕ → ℕ → ℕ → ℕ → IntervalAnswer
+latestAnswer T u v last = intervalAnswerOf (momentRefusal T u v last) (latestDeparting (cellsOf T u v) last)
 
 -- ---- connected
 

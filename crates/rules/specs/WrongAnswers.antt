@@ -1,17 +1,19 @@
 -- Wrong answers that demand 2 shuts out (document 01, last paragraph: "Reject").
 use Prim.Native.Nat.{ℕ, zero, suc, _-_}
 use mathlib.Core.Path.{_≡_}
-use mathlib.Core.Option.{Option, none, some}
+use mathlib.Core.Bool.{cond}
+use mathlib.Core.Option.{Option, none, some, Option·map}
 use mathlib.Core.List.{List, [], _∷_, map}
 use lib.ListN.{replicate}
-use Rattle.journeys.specs.Journey.{Contact}
+use lib.Dec.{leb, ltb}
+use Rattle.journeys.specs.Journey.{Contact, Interval, interval}
+use Rattle.journeys.specs.Cell.{Cell, later, latestDeparting, earliestArriving}
 use Rattle.rules.specs.declared.AskAnswer.{AskAnswer}
 use Rattle.rules.specs.declared.AskAnswer.the-variants.{Yes, No}
-use Rattle.rules.specs.declared.TickAnswer.{TickAnswer}
-use Rattle.rules.specs.declared.TickAnswer.the-variants.{Nothing}
-use Rattle.rules.specs.Answers.{unless, askAnswerOf}
+use Rattle.rules.specs.declared.IntervalAnswer.{IntervalAnswer}
+use Rattle.rules.specs.Answers.{unless, askAnswerOf, intervalAnswerOf}
 use Rattle.rules.specs.Layout.{animals, cellsOf}
-use Rattle.rules.specs.Questions.{reaches, reachRefusal}
+use Rattle.rules.specs.Questions.{reaches, reachRefusal, momentRefusal}
 use Rattle.rules.specs.Chains.{Lead, Lowest, nobody, animal, orElse, leads, follow, ofKept, chainOf, chainRefusal, chainAnswerOf, chainWords}
 use Rattle.rules.specs.declared.OpenAnswer.the-variants.{Opened}
 use Rattle.rules.specs.Opening.{openAnswer}
@@ -19,15 +21,16 @@ use Rattle.rules.specs.CallLists.{Engine, engine, tableAfter, LegalOf}
 use Rattle.rules.specs.Demand2.{Questions, questions, AnsweredOn, Demand2}
 use Rattle.rules.specs.Wrong.{given}
 
--- The questions of document 01, but for the parts that are given: reach, earliest arrival, connected, the set's words, its count, and the
--- rule of the chain on the same checks.
-abbrev pub questionsBut : Option (List ℕ → ℕ → ℕ → ℕ → ℕ → AskAnswer) → Option (List ℕ → ℕ → ℕ → ℕ → TickAnswer) → Option (List ℕ → ℕ → ℕ → AskAnswer)
-    → Option (List ℕ → ℕ → ℕ → ℕ → List ℕ) → Option (List ℕ → ℕ → ℕ → ℕ → ℕ) → Option (List ℕ → ℕ → ℕ → ℕ → ℕ → Option (List Contact)) → Questions
-questionsBut reach earliest connected words count rule =
+-- The questions of document 01, but for the parts that are given: reach, connected, the set's words, its count, and, on the same checks, the
+-- rules of the earliest arrival, of the latest departure and of the chain.
+abbrev pub questionsBut : Option (List ℕ → ℕ → ℕ → ℕ → ℕ → AskAnswer) → Option (List ℕ → ℕ → ℕ → AskAnswer)
+    → Option (List ℕ → ℕ → ℕ → ℕ → List ℕ) → Option (List ℕ → ℕ → ℕ → ℕ → ℕ) → Option (Cell → ℕ → Option Interval) → Option (Cell → ℕ → Option Interval)
+    → Option (List ℕ → ℕ → ℕ → ℕ → ℕ → Option (List Contact)) → Questions
+questionsBut reach connected words count earliest latest rule =
     record {
       reach = given reach (questions .reach);
-      earliest = given earliest (questions .earliest);
-      latest = questions .latest;
+      earliest = λ T u v first. intervalAnswerOf (momentRefusal T u v first) (given earliest earliestArriving (cellsOf T u v) first);
+      latest = λ T u v last. intervalAnswerOf (momentRefusal T u v last) (given latest latestDeparting (cellsOf T u v) last);
       connected = given connected (questions .connected);
       reached = questions .reached;
       reached-words = given words (questions .reached-words);
@@ -36,12 +39,18 @@ questionsBut reach earliest connected words count rule =
       chain-leaves = λ T u v first last B. unless (chainRefusal T u v first last B) (chainWords (given rule chainOf T u v first last) B) B;
     }
 
--- Another rule for reach, and another for the chain.
+-- Another rule for reach, for the earliest arrival, for the latest departure, and for the chain.
 abbrev withReach : (List ℕ → ℕ → ℕ → ℕ → ℕ → AskAnswer) → Questions
-withReach g = questionsBut (some g) none none none none none
+withReach g = questionsBut (some g) none none none none none none
+
+abbrev withEarliest : (Cell → ℕ → Option Interval) → Questions
+withEarliest g = questionsBut none none none none (some g) none none
+
+abbrev withLatest : (Cell → ℕ → Option Interval) → Questions
+withLatest g = questionsBut none none none none none (some g) none
 
 abbrev withChain : (List ℕ → ℕ → ℕ → ℕ → ℕ → Option (List Contact)) → Questions
-withChain g = questionsBut none none none none none (some g)
+withChain g = questionsBut none none none none none none (some g)
 
 -- "No" every time.
 abbrev pub alwaysNo : Questions
@@ -59,21 +68,82 @@ endsLater = withReach (λ T u v first last. askAnswerOf (reachRefusal T u v firs
 abbrev pub beginsLater : Questions
 beginsLater = withReach (λ T u v first last. askAnswerOf (reachRefusal T u v first last) (reaches T u v (suc first) last))
 
+-- ---- earliest arrival and latest departure
+
 -- "No journey" every time, for the earliest arrival.
 abbrev pub neverArrives : Questions
-neverArrives = questionsBut none (some (λ T u v first. Nothing)) none none none none
+neverArrives = withEarliest (λ c t. none)
+
+-- "No journey" every time, for the latest departure.
+abbrev pub neverDeparts : Questions
+neverDeparts = withLatest (λ c t. none)
+
+-- The first tick taken as strictly before the departure.
+abbrev pub departsAfterFirst : Questions
+departsAfterFirst = withEarliest (λ c t. earliestArriving c (suc t))
+
+-- The last tick taken as strictly after the arrival.
+abbrev pub arrivesBeforeLast : Questions
+arrivesBeforeLast = withLatest (λ c t. latestDeparting c (t - 1))
+
+-- The first interval of the cell, and its last.
+abbrev firstOfCell : Cell → Interval
+firstOfCell [] = interval 0 0
+firstOfCell (i ∷ c) = i
+
+unfoldable pub lastOfCell : Cell → Interval
+lastOfCell [] = interval 0 0
+lastOfCell (i ∷ []) = i
+lastOfCell (i ∷ j ∷ c) = lastOfCell (j ∷ c)
+
+-- The earliest arrival with the departure of another row.
+abbrev pub otherDeparture : Questions
+otherDeparture = withEarliest (λ c t. Option·map (λ i. interval (firstOfCell c .departure) (i .arrival)) (earliestArriving c t))
+
+-- The departure of that row with the arrival of a later one.
+abbrev pub laterArrival : Questions
+laterArrival = withEarliest (λ c t. Option·map (λ i. interval (i .departure) (lastOfCell c .arrival)) (earliestArriving c t))
+
+-- The latest departure with the arrival of another row.
+abbrev pub otherArrival : Questions
+otherArrival = withLatest (λ c t. Option·map (λ i. interval (i .departure) (lastOfCell c .arrival)) (latestDeparting c t))
+
+-- The arrival of that row with the departure of an earlier one.
+abbrev pub earlierDeparture : Questions
+earlierDeparture = withLatest (λ c t. Option·map (λ i. interval (firstOfCell c .departure) (i .arrival)) (latestDeparting c t))
+
+-- Of the rows at the front that depart before t the last, and of those behind the rows that arrive by t the first.
+unfoldable pub departingBefore : Cell → ℕ → Option Interval
+departingBefore [] t = none
+departingBefore (i ∷ c) t = cond (ltb (i .departure) t) (later i (departingBefore c t)) none
+
+unfoldable pub arrivingAfter : Cell → ℕ → Option Interval
+arrivingAfter [] t = none
+arrivingAfter (i ∷ c) t = cond (leb (i .arrival) t) (arrivingAfter c t) (some i)
+
+-- The row before the first that departs at or after the first tick.
+abbrev pub rowBefore : Questions
+rowBefore = withEarliest departingBefore
+
+-- The row behind the last that arrives by the last tick.
+abbrev pub rowBehind : Questions
+rowBehind = withLatest arrivingAfter
+
+-- ---- connected, reached
 
 -- Connected every time.
 abbrev pub alwaysConnected : Questions
-alwaysConnected = questionsBut none none (some (λ T first last. Yes)) none none none
+alwaysConnected = questionsBut none (some (λ T first last. Yes)) none none none none none
 
 -- A set that is always empty.
 abbrev pub reachesNobody : Questions
-reachesNobody = questionsBut none none none (some (λ T u first last. replicate 8 0)) none none
+reachesNobody = questionsBut none none (some (λ T u first last. replicate 8 0)) none none none none
 
 -- A count that is always 0.
 abbrev pub countsNobody : Questions
-countsNobody = questionsBut none none none none (some (λ T u first last. 0)) none
+countsNobody = questionsBut none none none (some (λ T u first last. 0)) none none none
+
+-- ---- the chain
 
 -- "No journey" every time, for the chain.
 abbrev pub neverChained : Questions
@@ -117,6 +187,15 @@ pub record RejectedAnswers : Type 1 where
   pub ends-later : (E : Engine) → ¬ Demand2 E endsLater
   pub begins-later : (E : Engine) → ¬ Demand2 E beginsLater
   pub never-arrives : (E : Engine) → ¬ Demand2 E neverArrives
+  pub never-departs : (E : Engine) → ¬ Demand2 E neverDeparts
+  pub departs-after-first : (E : Engine) → ¬ Demand2 E departsAfterFirst
+  pub arrives-before-last : (E : Engine) → ¬ Demand2 E arrivesBeforeLast
+  pub other-departure : (E : Engine) → ¬ Demand2 E otherDeparture
+  pub later-arrival : (E : Engine) → ¬ Demand2 E laterArrival
+  pub other-arrival : (E : Engine) → ¬ Demand2 E otherArrival
+  pub earlier-departure : (E : Engine) → ¬ Demand2 E earlierDeparture
+  pub row-before : (E : Engine) → ¬ Demand2 E rowBefore
+  pub row-behind : (E : Engine) → ¬ Demand2 E rowBehind
   pub always-connected : (E : Engine) → ¬ Demand2 E alwaysConnected
   pub reaches-nobody : (E : Engine) → ¬ Demand2 E reachesNobody
   pub counts-nobody : (E : Engine) → ¬ Demand2 E countsNobody

@@ -61,9 +61,15 @@ pub enum AskAnswer {
     Refused(Refusal),
 }
 
-// What a question for a tick answers: the tick, or that there is none.
-pub enum TickAnswer {
-    At(u32),
+// The two ends of an interval.
+pub struct Ends {
+    pub departure: u32,
+    pub arrival: u32,
+}
+
+// What the questions for the earliest arrival and the latest departure answer: the whole interval, or that there is none.
+pub enum IntervalAnswer {
+    At(Ends),
     Nothing,
     Refused(Refusal),
 }

@@ -1,13 +1,13 @@
 -- The ticks read off a cell: departures and arrivals lie within their limits, and 0 says that there is none.
 use mathlib.Core.Path.{_≡_, refl, sym, ap}
 use mathlib.Core.Bool.{Bool, true, false, cond}
-use mathlib.Core.Option.{Option, none, some}
-use mathlib.Core.List.{List, [], _∷_, List·Memᴰ, List·Memᴰ·head, List·Memᴰ·tail}
+use mathlib.Core.Option.{Option, none, some, Option·map}
+use mathlib.Core.List.{List, List·Memᴰ}
 use Prim.Native.Nat.{ℕ, _+_, _≤_, _<_}
 use native.Mathlib.Omega.{arith}
-use lib.Dec.{leb}
 use Rattle.journeys.specs.Journey.{Interval}
-use Rattle.journeys.specs.Cell.{Cell, later, sooner, latestDeparture, earliestArrival}
+use Rattle.journeys.specs.Cell.{Cell, latestDeparture, earliestArrival}
+use Rattle.journeys.proofs.First.{FirstOf, nothing-asked, first-asked, latest-departing, earliest-arriving}
 use Rattle.rules.specs.Limits.{maxArrival}
 use Rattle.rules.specs.Layout.{animals, cellsOf}
 use Rattle.rules.specs.Checks.{ValidTable}
@@ -41,34 +41,21 @@ module _ (m : ℕ) where
   tick-cond true o p h k = h
   tick-cond false o p h k = k
 
-  -- A tick picked among ends of the cell lies where they all lie.
-  picked : (f : Interval → ℕ) (taken : Interval → Bool) (pick : ℕ → Option ℕ → Option ℕ) (look : Cell → Option ℕ)
-      → look [] ≡ none → ((i : Interval) (c : Cell) → look (i ∷ c) ≡ cond (taken i) (pick (f i) (look c)) (look c))
-      → ((a : ℕ) (o : Option ℕ) → Tick m (some a) → Tick m o → Tick m (pick a o))
-      → (c : Cell) → ((i : Interval) → List·Memᴰ i c → Tick m (some (f i))) → Tick m (look c)
-  picked f taken pick look e s k [] h = rw e tt
-  picked f taken pick look e s k (i ∷ c) h = rw (s i c) (go (picked f taken pick look e s k c (λ j q. h j (List·Memᴰ·tail q))))
-    where
-      go : Tick m (look c) → Tick m (cond (taken i) (pick (f i) (look c)) (look c))
-      go r = tick-cond (taken i) (pick (f i) (look c)) (look c) (k (f i) (look c) (h i (List·Memᴰ·head refl)) r) r
+  -- An end of the interval found lies where those of the cell's intervals all lie.
+  found-tick : {P : Interval → Type 0} {R : Interval → Interval → Type 0} (f : Interval → ℕ) (c : Cell) {o : Option Interval} → FirstOf P R c o
+      → ((i : Interval) → List·Memᴰ i c → Tick m (some (f i))) → Tick m (Option·map f o)
+  found-tick f c (nothing-asked n) h = tt
+  found-tick f c (first-asked {i = i} q p l) h = h i q
 
   -- The latest departure is one of the cell.
   pub latest-tick : (t : ℕ) (c : Cell) → ((i : Interval) → List·Memᴰ i c → Tick m (some (i .departure))) → Tick m (latestDeparture c t)
-  unfolding latestDeparture later
-  latest-tick t = picked departureEnd (λ i. leb (i .arrival) t) later (λ c. latestDeparture c t) refl (λ i c. refl) go
-    where
-      go : (a : ℕ) (o : Option ℕ) → Tick m (some a) → Tick m o → Tick m (later a o)
-      go a none h k = h
-      go a (some b) h k = (omega arith, omega arith)
+  unfolding latestDeparture
+  latest-tick t c = found-tick departureEnd c (latest-departing t c)
 
   -- The earliest arrival is one of the cell.
   pub earliest-tick : (t : ℕ) (c : Cell) → ((i : Interval) → List·Memᴰ i c → Tick m (some (i .arrival))) → Tick m (earliestArrival c t)
-  unfolding earliestArrival sooner
-  earliest-tick t = picked arrivalEnd (λ i. leb t (i .departure)) sooner (λ c. earliestArrival c t) refl (λ i c. refl) go
-    where
-      go : (a : ℕ) (o : Option ℕ) → Tick m (some a) → Tick m o → Tick m (sooner a o)
-      go a none h k = h
-      go a (some b) h k = (omega arith, omega arith)
+  unfolding earliestArrival
+  earliest-tick t c = found-tick arrivalEnd c (earliest-arriving t c)
 
 -- ---- of a table that passes its checks
 

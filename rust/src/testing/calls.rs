@@ -4,7 +4,7 @@ use crate::testing::check;
 use crate::testing::contents::Contents;
 use crate::testing::model::{self, Contacts, Journeys};
 use crate::testing::words::{self, Interval, Opening, SET_WORDS};
-use crate::{Added, Answer, Chain, Opened, Reached, Read, Tick, Written};
+use crate::{Added, Answer, Chain, Found, Opened, Reached, Read, Written};
 
 /// Opening over these words.
 pub fn open(table: &[u32], animals: u32, ticks: u32, carry: u32) -> (Opened, Vec<u32>) {
@@ -109,18 +109,18 @@ impl Known {
         checked.map_or_else(Answer::Refused, answer)
     }
 
-    /// The earliest arrival from a first tick.
-    pub fn earliest(&self, u: u32, v: u32, first: u32) -> Tick {
+    /// The interval with the earliest arrival from a first tick on.
+    pub fn earliest(&self, u: u32, v: u32, first: u32) -> Found {
         let checked = self.pair_and_tick(u, v, first);
-        let answer = |contents: &dyn Contents| told(contents.earliest(u, v, first));
-        checked.map_or_else(Tick::Refused, answer)
+        let answer = |contents: &dyn Contents| found(contents.earliest(u, v, first));
+        checked.map_or_else(Found::Refused, answer)
     }
 
-    /// The latest departure by a last tick.
-    pub fn latest(&self, u: u32, v: u32, last: u32) -> Tick {
+    /// The interval with the latest departure by a last tick.
+    pub fn latest(&self, u: u32, v: u32, last: u32) -> Found {
         let checked = self.pair_and_tick(u, v, last);
-        let answer = |contents: &dyn Contents| told(contents.latest(u, v, last));
-        checked.map_or_else(Tick::Refused, answer)
+        let answer = |contents: &dyn Contents| found(contents.latest(u, v, last));
+        checked.map_or_else(Found::Refused, answer)
     }
 
     /// Whether every animal reaches every other one.
@@ -224,7 +224,7 @@ fn answered(so: bool) -> Answer {
     }
 }
 
-/// The tick, where there is one.
-fn told(tick: Option<u32>) -> Tick {
-    tick.map_or(Tick::Nothing, Tick::At)
+/// The interval, where there is one.
+pub fn found(interval: Option<Interval>) -> Found {
+    interval.map_or(Found::Nothing, Found::At)
 }

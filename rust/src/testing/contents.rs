@@ -21,11 +21,11 @@ pub trait Contents {
     /// Whether a journey from `u` to `v` fits the window.
     fn reaches(&self, u: u32, v: u32, window: Interval) -> bool;
 
-    /// The earliest arrival of a journey from `u` to `v` that departs at or after `first`.
-    fn earliest(&self, u: u32, v: u32, first: u32) -> Option<u32>;
+    /// Of the journeys from `u` to `v` that depart at or after `first`, the minimal interval with the earliest arrival.
+    fn earliest(&self, u: u32, v: u32, first: u32) -> Option<Interval>;
 
-    /// The latest departure of a journey from `u` to `v` that arrives by `last`.
-    fn latest(&self, u: u32, v: u32, last: u32) -> Option<u32>;
+    /// Of the journeys from `u` to `v` that arrive by `last`, the minimal interval with the latest departure.
+    fn latest(&self, u: u32, v: u32, last: u32) -> Option<Interval>;
 
     /// The chain from `u` to `v` in the window.
     fn chain(&self, u: u32, v: u32, window: Interval) -> Option<Vec<Contact>>;

@@ -98,14 +98,20 @@ impl Contents for Journeys {
         self.between(u, v).iter().any(|i| i.fits(window))
     }
 
-    fn earliest(&self, u: u32, v: u32, first: u32) -> Option<u32> {
+    fn earliest(&self, u: u32, v: u32, first: u32) -> Option<Interval> {
         let departing = self.between(u, v).iter().filter(|i| i.departure >= first);
-        departing.map(|i| i.arrival).min()
+        let arrival = departing.map(|i| i.arrival).min()?;
+        let departure = self.latest_to_arrive(u, v, first, arrival)?;
+        Some(Interval::new(departure, arrival))
     }
 
-    fn latest(&self, u: u32, v: u32, last: u32) -> Option<u32> {
-        let arriving = self.between(u, v).iter().filter(|i| i.arrival <= last);
-        arriving.map(|i| i.departure).max()
+    fn latest(&self, u: u32, v: u32, last: u32) -> Option<Interval> {
+        let journeys = self.between(u, v);
+        let arriving = journeys.iter().filter(|i| i.arrival <= last);
+        let departure = arriving.map(|i| i.departure).max()?;
+        let leaving = journeys.iter().filter(|i| i.departure == departure);
+        let arrival = leaving.map(|i| i.arrival).min()?;
+        Some(Interval::new(departure, arrival))
     }
 
     fn chain(&self, u: u32, v: u32, window: Interval) -> Option<Vec<Contact>> {

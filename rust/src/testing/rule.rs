@@ -92,13 +92,13 @@ impl Contents for Stored {
             let d = if x == u {
                 Some(t)
             } else {
-                latest_departure(self.cell(x, u), t)
+                self.latest(x, u, t).map(|i| i.departure)
             };
             for y in (0..self.opening.animals).filter(|&y| y != x) {
                 let e = if y == v {
                     Some(arrival)
                 } else {
-                    earliest_arrival(self.cell(v, y), arrival)
+                    self.earliest(v, y, arrival).map(|i| i.arrival)
                 };
                 if let (Some(d), Some(e)) = (d, e) {
                     let cell = self.cell(x, y);
@@ -115,30 +115,20 @@ impl Contents for Stored {
         self.cell(u, v).iter().any(|i| i.fits(window))
     }
 
-    fn earliest(&self, u: u32, v: u32, first: u32) -> Option<u32> {
-        earliest_arrival(self.cell(u, v), first)
+    fn earliest(&self, u: u32, v: u32, first: u32) -> Option<Interval> {
+        let departing = self.cell(u, v).iter().filter(|i| i.departure >= first);
+        departing.min_by_key(|i| i.arrival).copied()
     }
 
-    fn latest(&self, u: u32, v: u32, last: u32) -> Option<u32> {
-        latest_departure(self.cell(u, v), last)
+    fn latest(&self, u: u32, v: u32, last: u32) -> Option<Interval> {
+        let arrived = self.cell(u, v).iter().filter(|i| i.arrival <= last);
+        arrived.max_by_key(|i| i.departure).copied()
     }
 
     fn chain(&self, u: u32, v: u32, window: Interval) -> Option<Vec<Contact>> {
         let (walked, ends) = self.walk(u, v, window);
         (ends && walked.len() < self.opening.animals as usize).then_some(walked)
     }
-}
-
-/// The latest departure in the cell with arrival at most `tick`.
-fn latest_departure(cell: &[Interval], tick: u32) -> Option<u32> {
-    let arrived = cell.iter().filter(|i| i.arrival <= tick);
-    arrived.map(|i| i.departure).max()
-}
-
-/// The earliest arrival in the cell with departure at least `tick`.
-fn earliest_arrival(cell: &[Interval], tick: u32) -> Option<u32> {
-    let departing = cell.iter().filter(|i| i.departure >= tick);
-    departing.map(|i| i.arrival).min()
 }
 
 /// The cell after the interval enters it.

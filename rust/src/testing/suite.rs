@@ -13,6 +13,7 @@ pub use call::{Call, Outcome};
 pub use lent::Lent;
 pub use reply::{Export, Reply};
 
+use crate::testing::calls::found;
 use crate::testing::check;
 use crate::testing::compare::same_words;
 use crate::testing::guard::{Place, PLACES};
@@ -41,6 +42,31 @@ impl Suite {
     pub fn require(&mut self, lent: &Lent, call: &Call, reply: Reply) {
         let answer = self.compare(lent, call);
         assert_eq!(answer, reply, "{call:?} on {:?}", lent.opening);
+    }
+
+    /// Asks for earliest and latest of a pair at a tick, compares, and fails unless they are answered so.
+    #[track_caller]
+    pub fn require_at_tick(
+        &mut self,
+        lent: &Lent,
+        (u, v): (u32, u32),
+        tick: u32,
+        earliest: Option<Interval>,
+        latest: Option<Interval>,
+    ) {
+        self.require(lent, &Call::Earliest(u, v, tick), found(earliest).into());
+        self.require(lent, &Call::Latest(u, v, tick), found(latest).into());
+    }
+
+    /// Asks for earliest and latest of a pair at every tick, compares, and fails unless each is answered with the row next
+    /// to the tick: the first of the pair's rows that depart at it or later, the last of those that arrive by it.
+    #[track_caller]
+    pub fn require_rows(&mut self, lent: &Lent, pair: (u32, u32), rows: &[Interval]) {
+        for tick in 1..=lent.opening.last_arrival() {
+            let next = rows.iter().find(|row| row.departure >= tick);
+            let before = rows.iter().rev().find(|row| row.arrival <= tick);
+            self.require_at_tick(lent, pair, tick, next.copied(), before.copied());
+        }
     }
 
     /// Makes the call with each lent slice at either guard, those lent for reading where they cannot be written, and

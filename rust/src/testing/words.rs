@@ -1,5 +1,7 @@
 //! Contacts, intervals and openings, and their 32-bit words as document 01 lays them out.
 
+pub use crate::Interval;
+
 /// The numbers of a table: animals n, ticks τ and carry time δ.
 #[derive(Clone, Copy, Debug, PartialEq, Eq)]
 pub struct Opening {
@@ -14,13 +16,6 @@ pub struct Contact {
     pub tick: u32,
     pub from: u32,
     pub to: u32,
-}
-
-/// The first departure and the last arrival of a journey.
-#[derive(Clone, Copy, Debug, PartialEq, Eq, PartialOrd, Ord)]
-pub struct Interval {
-    pub departure: u32,
-    pub arrival: u32,
 }
 
 /// The intervals of every ordered pair of animals, at the places that `pair` gives.

@@ -1,52 +1,44 @@
 -- `cells::stands` meets its contract: the only row that can be [d, a] is the first that departs at or after d.
-use native.Mathlib.Omega.{arith}
 use borrow.Author.Needs.{needs}
-use mathlib.Core.Path.{sym}
-use Rattle.cells.specs.Stored.{departureEnd}
-use Rattle.cells.proofs.Lent.{Found, lent-rising, found-below, found-within, stands-zero, stands-other, stands-apart, stands-here}
+use mathlib.Core.Path.{_≡_, sym, _∙_}
+use Rattle.cells.specs.declared.RowFound.{RowFound}
+use Rattle.cells.specs.Rows.{intervalFound}
+use Rattle.rules.specs.Layout.{cellOf}
+use Rattle.rules.specs.Adding.{sameInterval, stands}
+use Rattle.journeys.specs.Journey.{interval}
+use Rattle.cells.proofs.Rows.{passes, stands-found, same-departing, same-apart}
 use Rattle.cells.proofs.stands.Statement.{statement}
 use Rattle.cells.proofs.stands.Tie as tie
 
--- Where the function was called.
-abbrev entry : tie.After-lower-bound-departure → tie.Start
-entry c = c .before .before .before .before
+-- Where the function was called, from the search.
+abbrev entry : tie.After-first-departing → tie.Start
+entry c = c .before .before
 
--- What the search found.
-found : (c : tie.After-lower-bound-departure)
-    → let a = entry c .args in Found departureEnd (a .d) (a .cell .now) (c .before .before .rows-end .result) (c .lower-bound-departure .result)
-found c = record { in-use = entry c .pre; lent = c .before .before .rows-end .ensures .0; place = c .lower-bound-departure .ensures }
+-- Where the row is known, from the test of the departures.
+abbrev row-known : tie.After-struct-known → tie.After-found
+row-known c = c .before .before
 
-lower-bound-departure-requires : tie.Need-lower-bound-departure-requires
-lower-bound-departure-requires c κs = let r = c .before in lent-rising _ _ (r .before .before .pre) (r .rows-end .ensures .0)
-
--- The row that the search found was read.
-abbrev row-found : tie.After-departure-of → tie.After-lower-bound-departure
-row-found c = c .before .before .before
-
-add-at : tie.Need-add-at
-add-at c = omega (arith, found-below (found c))
+-- What the search found decides.
+decides : (c : tie.After-first-departing) {f : RowFound} → c .first-departing .result ≡ f
+    → let a = entry c .args in passes (λ j. sameInterval (interval (a .d) (a .a)) j) (intervalFound f) ≡ stands (interval (a .d) (a .a)) (cellOf (a .cell .now))
+decides c q = let s = entry c in sym (stands-found (s .args .d) (s .args .a) _ (s .pre .rising) (sym q ∙ c .first-departing .ensures))
 
 returns : tie.Need-returns
-returns c = sym (stands-zero (found (c .before)) _ (omega arith))
-
-mul-w : tie.Need-mul-w
-mul-w c = let g = found (c .before) in omega (arith, found-below g, found-within g)
-
-shared-slice-read-w : tie.Need-shared-slice-read-w
-shared-slice-read-w c = let g = found (c .before .before) in omega (arith, found-below g, found-within g)
+returns c =
+    let k = c .before in
+    let r = row-known (k .before) in
+    let a = entry (r .before .before) .args in
+    same-departing (a .d) (a .a) (r .found .given .0 .0 .ends .departure) (r .found .given .0 .0 .ends .arrival) (k .if1 .taken)
+    ∙ decides (r .before .before) (r .found .given .1)
 
 returns-2 : tie.Need-returns-2
-returns-2 c = sym (stands-other (found (row-found (c .before))) _ (λ z. omega arith) (λ z. omega arith))
-
-returns-3 : tie.Need-returns-3
-returns-3 c = sym (stands-apart (found (row-found (c .before .before .before))) _ (λ z. omega arith) (omega arith) (λ z. omega arith))
-
-returns-4 : tie.Need-returns-4
-returns-4 c = sym (stands-here (found (row-found (c .before .before .before))) _ (λ z. omega arith) (omega arith) (omega arith))
+returns-2 c =
+    let r = row-known (c .before) in
+    let a = entry (r .before .before) .args in
+    same-apart (a .d) (a .a) (r .found .given .0 .0 .ends .departure) (r .found .given .0 .0 .ends .arrival) (c .if1 .left)
+    ∙ decides (r .before .before) (r .found .given .1)
 
 pub stands-spec : {M : Type 1} → statement M
 stands-spec =
     tie.close
-    (tie.spec
-    (λ c κs. search needs) (λ c. search needs) (λ c. search needs) (λ c. search needs) lower-bound-departure-requires add-at returns mul-w shared-slice-read-w
-    (λ c κs. search needs) returns-2 (λ c κs. search needs) returns-3 returns-4)
+    (tie.spec (λ c κs. search needs) (λ c. search needs) (λ c. search needs) returns returns-2 (λ c. decides (c .before .before) (c .enum-told .given .1)))

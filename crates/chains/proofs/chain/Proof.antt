@@ -7,7 +7,8 @@ use lib.ListN.{length}
 use Rattle.rules.specs.Layout.{animals}
 use Rattle.rules.specs.Chains.{chainRefusal, chainAnswer, chainLeaves}
 use Rattle.rules.proofs.Sound.{table-sizes}
-use Rattle.checks.proofs.Judged.{PairOf, room-behind, verdict-refused, verdict-passed}
+use Rattle.rules.proofs.Asked.{PairOf}
+use Rattle.checks.proofs.Judged.{room-behind, verdict-refused, verdict-passed}
 use Rattle.chains.proofs.Replies.{chain-none, chain-found}
 use borrow.Author.Needs.{needs}
 use Rattle.chains.proofs.chain.Statement.{statement}

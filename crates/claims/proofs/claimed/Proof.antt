@@ -3,7 +3,8 @@ use mathlib.Core.Path.{_≡_, refl, sym, _∙_}
 use mathlib.Core.Option.{none}
 use Rattle.rules.specs.Questions.{reachRefusal}
 use Rattle.rules.specs.Claims.{claimedAnswer}
-use Rattle.checks.proofs.Judged.{valid-behind, verdict-refused, verdict-passed}
+use Rattle.rules.proofs.Asked.{valid-behind}
+use Rattle.checks.proofs.Judged.{verdict-refused, verdict-passed}
 use borrow.Author.Needs.{needs}
 use Rattle.claims.proofs.claimed.Statement.{statement}
 use Rattle.claims.proofs.claimed.Tie as tie

@@ -1,17 +1,11 @@
 -- `enters` meets its contract: where the interval goes is one record of facts, from which every later need follows.
-use Prim.Native.Nat.{ℕ, _+_, _-_}
-use mathlib.Core.Path.{_≡_, sym, ap, _∙_, subst}
+use Prim.Native.Nat.{ℕ}
+use mathlib.Core.Path.{sym, ap, _∙_}
 use mathlib.Core.Bool.{not}
-use mathlib.Core.List.{List, map}
+use mathlib.Core.List.{List}
 use native.Mathlib.Omega.{arith}
 use borrow.Author.Needs.{needs}
-use lib.ListN.{take, drop}
-use Rattle.journeys.specs.Journey.{interval}
-use Rattle.journeys.specs.Cell.{Rising, hasInside}
-use Rattle.words.specs.Words.{intervalOf}
-use Rattle.rules.specs.Layout.{cellOf}
-use Rattle.cells.specs.Stored.{departureEnd, arrivalEnd, frontBelow}
-use Rattle.cells.proofs.Lent.{count-fits, lent-is}
+use Rattle.cells.proofs.Lent.{stored-in-use}
 use Rattle.entering.proofs.Entered.{same, Goes, goes, ready, entered}
 use Rattle.entering.proofs.enters.Statement.{statement}
 use Rattle.entering.proofs.enters.Tie as tie
@@ -22,7 +16,7 @@ entry n = n .before .before .before
 
 -- Where the count was read, from the search.
 abbrev counted : tie.After-find → tie.After-rows-of
-counted f = f .before .before .before
+counted f = f .before .before
 
 -- Where no row was found to lie inside, from the replacing.
 abbrev goes-in : tie.After-replace → tie.Else1
@@ -31,15 +25,6 @@ goes-in r = r .before .before .before
 -- The cell as it came.
 abbrev cell-of : tie.After-rows-of → List ℕ
 cell-of n = entry n .args .cell .now
-
--- The rows that are searched say the cell.
-part : (n : tie.After-rows-of) → map intervalOf (take (n .rows-of .result + 1 - 1) (drop 1 (cell-of n))) ≡ cellOf (cell-of n)
-part n = lent-is (cell-of n) (n .rows-of .result + 1) (ap (λ m. m + 1) (n .rows-of .ensures)) (entry n .pre .0 .long)
-
--- What the search found of rows inside [d, a] it found of the cell.
-inside-is : (f : tie.After-find)
-    → let n = counted f in hasInside (interval (entry n .args .d) (entry n .args .a)) (cellOf (cell-of n)) ≡ f .find .result .met
-inside-is f = ap (hasInside _) (sym (part (counted f))) ∙ sym (f .find .ensures .0)
 
 -- Where the interval goes, from what the search found.
 here : (c : tie.Else1)
@@ -52,21 +37,16 @@ here c =
     let s = entry n in
     let g = f .find .ensures .1 (c .if1 .left) in
     goes (cell-of n) (s .args .d) (s .args .a) (n .rows-of .result) (f .find .result .lo) (f .find .result .hi) (s .pre .0) (n .rows-of .ensures)
-    (s .pre .1 .0) (s .pre .1 .1) (inside-is f ∙ c .if1 .left)
-    (g .0 ∙ ap (frontBelow arrivalEnd _) (part n))
-    (g .1 ∙ ap (frontBelow departureEnd _) (part n))
-
-part-find-end : tie.Need-part-find-end
-part-find-end c = let n = c .before in omega (arith, n .rows-of .ensures, count-fits (cell-of n) (entry n .pre .0))
+    (s .pre .1 .0) (s .pre .1 .1) (sym (f .find .ensures .0) ∙ c .if1 .left) (g .0) (g .1)
 
 find-requires : tie.Need-find-requires
-find-requires c κs = let n = c .before .before in subst Rising (sym (part n)) (entry n .pre .0 .rising)
+find-requires c κs = stored-in-use (entry (c .before) .pre .0)
 
 returns : tie.Need-returns
 returns c =
     let f = c .before in
     let n = counted f in
-    let e = inside-is f ∙ c .if1 .taken in
+    let e = sym (f .find .ensures .0) ∙ c .if1 .taken in
     (ap not (sym e), same (cell-of n) (entry n .pre .0) _ _ e)
 
 replace-requires : tie.Need-replace-requires
@@ -105,6 +85,5 @@ pub enters-spec : {M : Type 1} → statement M
 enters-spec =
     tie.close
     (tie.spec
-    (λ c. search needs) (λ c κs. search needs) (λ c. search needs) (λ c. search needs) (λ c. search needs) (λ c. search needs) part-find-end
-    find-requires (λ c. search needs) returns (λ c κs. search needs) (λ c. search needs) (λ c. search needs) (λ c. search needs) replace-requires
+    (λ c. search needs) (λ c κs. search needs) (λ c. search needs) find-requires (λ c. search needs) returns (λ c κs. search needs) (λ c. search needs) (λ c. search needs) (λ c. search needs) replace-requires
     add-rows sub-rows add-rows-2 cast-count-word count-word-requires (λ c. search needs) (λ c. search needs) returns-2)

@@ -1,12 +1,12 @@
 -- `herd_latest` meets its contract: the reply is that of the question's answer.
 use mathlib.Core.Path.{ap, _∙_}
-use Rattle.rules.specs.Answers.{tickReply}
+use Rattle.rules.specs.Answers.{intervalReply}
 use borrow.Author.Needs.{needs}
 use Rattle.herd_ffi.proofs.herd_latest.Statement.{statement}
 use Rattle.herd_ffi.proofs.herd_latest.Tie as tie
 
 returns : tie.Need-returns
-returns c = c .of-tick .ensures ∙ ap tickReply (c .before .latest .ensures)
+returns c = c .of-interval .ensures ∙ ap intervalReply (c .before .latest .ensures)
 
 pub herd-latest-spec : {M : Type 1} → statement M
 herd-latest-spec =

@@ -2,7 +2,8 @@
 use mathlib.Core.Path.{_≡_, refl, sym, _∙_}
 use mathlib.Core.Option.{none}
 use Rattle.rules.specs.Questions.{connectedRefusal, connectedAnswer}
-use Rattle.checks.proofs.Judged.{valid-behind, verdict-refused, verdict-passed}
+use Rattle.rules.proofs.Asked.{valid-behind}
+use Rattle.checks.proofs.Judged.{verdict-refused, verdict-passed}
 use borrow.Author.Needs.{needs}
 use Rattle.questions.proofs.connected.Statement.{statement}
 use Rattle.questions.proofs.connected.Tie as tie

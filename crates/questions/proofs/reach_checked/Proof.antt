@@ -4,7 +4,8 @@ use mathlib.Core.Option.{none}
 use Rattle.rules.specs.Adding.{ensurePair}
 use Rattle.rules.specs.Windows.{ensureWindow}
 use Rattle.rules.specs.Questions.{reachRefusal, reachAnswer}
-use Rattle.checks.proofs.Judged.{PairOf, pair-behind, behind-valid, verdict-refused, verdict-passed}
+use Rattle.rules.proofs.Asked.{PairOf, pair-behind}
+use Rattle.checks.proofs.Judged.{behind-valid, verdict-refused, verdict-passed}
 use borrow.Author.Needs.{needs}
 use Rattle.questions.proofs.reach_checked.Statement.{statement}
 use Rattle.questions.proofs.reach_checked.Tie as tie

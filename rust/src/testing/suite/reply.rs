@@ -1,6 +1,6 @@
 //! What any of the calls answers, and which answers each of them has.
 
-use crate::{Added, Answer, Chain, Opened, Reached, Read, Tick, Written};
+use crate::{Added, Answer, Chain, Found, Interval, Opened, Reached, Read, Written};
 
 /// The engine's calls.
 #[derive(Clone, Copy, Debug, PartialEq, Eq, PartialOrd, Ord)]
@@ -37,9 +37,9 @@ pub enum Reply {
     Yes,
     /// It is not so.
     No,
-    /// The tick.
-    At(u32),
-    /// There is no such tick.
+    /// The interval.
+    At(Interval),
+    /// There is no such interval.
     Nothing,
     /// So many animals.
     Animals(u32),
@@ -174,12 +174,12 @@ impl From<Answer> for Reply {
     }
 }
 
-impl From<Tick> for Reply {
-    fn from(answer: Tick) -> Reply {
+impl From<Found> for Reply {
+    fn from(answer: Found) -> Reply {
         match answer {
-            Tick::At(tick) => Reply::At(tick),
-            Tick::Nothing => Reply::Nothing,
-            Tick::Refused(number) => Reply::Refused(number),
+            Found::At(interval) => Reply::At(interval),
+            Found::Nothing => Reply::Nothing,
+            Found::Refused(number) => Reply::Refused(number),
         }
     }
 }

@@ -42,7 +42,7 @@ departure-with-requires : tie.Need-departure-with-requires
 departure-with-requires c κs =
     let o = c .before .before .before in
     let s = start o in
-    (s .pre .0, (s .pre .1 .1, s .pre .1 .2, omega (arith, o .carry-of .ensures)))
+    (s .pre .0, (s .pre .1 .1, s .pre .1 .2))
 
 returns-3 : tie.Need-returns-3
 returns-3 c =

@@ -1,39 +1,105 @@
--- `places::find` meets its contract. Where no row lies inside [d, a], those that depart at or after d arrive after a, so that the step back may start there.
+-- `places::find` meets its contract: the first row that departs at or after d says whether a row lies inside [d, a], and where the step back may start.
 use Prim.Native.Nat.{ℕ}
 use mathlib.Core.Path.{_≡_, sym, _∙_}
-use mathlib.Core.List.{map}
 use native.Mathlib.Omega.{arith}
 use borrow.Author.Needs.{needs}
-use lib.ListN.{length-map}
-use Rattle.journeys.specs.Journey.{interval}
-use Rattle.words.specs.Words.{intervalOf}
-use Rattle.cells.specs.Stored.{departureEnd}
+use lib.ListN.{length}
+use Rattle.rules.specs.Layout.{cellOf}
+use Rattle.cells.specs.Stored.{arrivalEnd}
 use Rattle.cells.proofs.Search.{front-length}
-use Rattle.entering.proofs.Splice.{arrive-le}
+use Rattle.cells.proofs.Lent.{in-use-length}
+use Rattle.entering.proofs.Slots.{none-inside, none-past, row-inside, row-outside, row-arrives, row-same, row-other, row-within}
 use Rattle.entering.proofs.places.find.Statement.{statement}
 use Rattle.entering.proofs.places.find.Tie as tie
 
--- Where the function was called, from the test for a row inside.
-abbrev entry : tie.After-has-inside → tie.Start
-entry c = c .before .before .before
+-- Where the function was called, from the search.
+abbrev entry : tie.After-first-departing → tie.Start
+entry c = c .before .before
 
-returns : tie.Need-returns
-returns c = (sym (c .if1 .taken) ∙ c .before .has-inside .ensures, λ e. let z : _≡_ {A = ℕ} 0 1 = cc in absurd (omega arith))
+-- The search, from where it found nothing, and from where it found a row.
+abbrev missed : tie.After-rows-of → tie.After-enum-told
+missed c = c .before .before
+
+abbrev row-found : tie.After-struct-known → tie.After-found
+row-found c = c .before .before
+
+-- ---- nothing found
+
+-- All rows are counted.
+rows : (c : tie.After-rows-of) → c .rows-of .result ≡ length (cellOf (entry (missed c .before .before) .args .cell .now))
+rows c = let s = entry (missed c .before .before) in c .rows-of .ensures ∙ sym (in-use-length (s .args .cell .now) (s .pre))
+
+shared-slice-read-rows-of : tie.Need-shared-slice-read-rows-of
+shared-slice-read-rows-of c = let s = entry (c .before .before .before) in omega (arith, s .pre .within)
 
 first-arriving-requires : tie.Need-first-arriving-requires
 first-arriving-requires c κs =
-    let s = entry (c .before) in
-    let d = s .args .d in
-    let rows = s .args .rows .now in
-    let le = arrive-le (interval d (s .args .a)) (map intervalOf rows) (intervalOf 0) (s .pre) (sym (c .before .has-inside .ensures) ∙ c .if1 .left) in
-    ((omega arith, omega (arith, front-length departureEnd d (map intervalOf rows), length-map rows intervalOf)), s .pre)
+    let s = entry (missed c .before .before) in
+    (s .pre, omega (arith, rows c, front-length arrivalEnd (s .args .a) (cellOf (s .args .cell .now))))
+
+returns-3 : tie.Need-returns-3
+returns-3 c =
+    let n = c .before in
+    let m = missed n in
+    let f = m .before .before in
+    let s = entry f in
+    let q = m .enum-told .given .1 in (
+      sym (none-inside (s .args .d) (s .args .a) _ (s .pre .rising) (f .first-departing .ensures) q),
+      λ z. (c .first-arriving .ensures, rows n ∙ none-past (s .args .d) (s .args .a) _ (s .pre .rising) (f .first-departing .ensures) q),
+    )
+
+-- ---- a row found
+
+returns : tie.Need-returns
+returns c =
+    let r = row-found (c .before) in
+    let f = r .before .before in
+    let s = entry f in
+    (row-inside (s .args .d) (s .args .a) _ (s .pre .rising) (f .first-departing .ensures) (r .found .given .1) (c .if1 .taken), λ e. let z : _≡_ {A = ℕ} 0 1 = cc in absurd (omega arith))
+
+first-arriving-requires-2 : tie.Need-first-arriving-requires-2
+first-arriving-requires-2 c κs =
+    let r = row-found (c .before) in
+    let f = r .before .before in
+    let s = entry f in
+    (s .pre, row-arrives (s .args .d) (s .args .a) _ (s .pre .rising) (f .first-departing .ensures) (r .found .given .1) (omega arith))
+
+-- Where the row arrives after a, from the end of the step back.
+abbrev late : tie.After-struct-known2 → tie.Else1
+late c = c .before .before
+
+add-t15 : tie.Need-add-t15
+add-t15 c =
+    let r = row-found (late (c .before) .before) in
+    let f = r .before .before in
+    let s = entry f in
+    omega (arith, row-within (s .args .d) (s .args .a) _ (s .pre .rising) (f .first-departing .ensures) (r .found .given .1), in-use-length (s .args .cell .now) (s .pre), s .pre .within)
 
 returns-2 : tie.Need-returns-2
 returns-2 c =
-    let a = c .before in
-    let e = a .before in
-    (sym (e .if1 .left) ∙ e .before .has-inside .ensures, λ _. (a .first-arriving .ensures, c .first-past .ensures))
+    let k = c .before in
+    let l = late k in
+    let r = row-found (l .before) in
+    let f = r .before .before in
+    let s = entry f in (
+      row-outside (s .args .d) (s .args .a) _ (s .pre .rising) (f .first-departing .ensures) (r .found .given .1) (omega (arith, l .if1 .left)),
+      λ z. (k .before .first-arriving2 .ensures, row-same (s .args .d) (s .args .a) _ (s .pre .rising) (f .first-departing .ensures) (r .found .given .1) (c .if2 .taken)),
+    )
+
+returns-4 : tie.Need-returns-4
+returns-4 c =
+    let k = c .before in
+    let l = late k in
+    let r = row-found (l .before) in
+    let f = r .before .before in
+    let s = entry f in (
+      row-outside (s .args .d) (s .args .a) _ (s .pre .rising) (f .first-departing .ensures) (r .found .given .1) (omega (arith, l .if1 .left)),
+      λ z. (k .before .first-arriving2 .ensures, row-other (s .args .d) (s .args .a) _ (s .pre .rising) (f .first-departing .ensures) (r .found .given .1) (c .if2 .left)),
+    )
 
 pub find-spec : {M : Type 1} → statement M
 find-spec =
-    tie.close (tie.spec (λ c κs. search needs) (λ c κs. search needs) returns first-arriving-requires (λ c κs. search needs) returns-2)
+    tie.close
+    (tie.spec
+    (λ c κs. search needs) (λ c. search needs) shared-slice-read-rows-of (λ c κs. search needs) (λ c. search needs) first-arriving-requires
+    (λ c. search needs) returns first-arriving-requires-2 add-t15 returns-2 returns-3 returns-4)
