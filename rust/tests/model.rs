@@ -105,19 +105,23 @@ fn minimal(intervals: &[Interval]) -> Vec<Interval> {
     minimal.into_iter().collect()
 }
 
+/// Two to four animals, up to so many ticks, a carry time of 1 to 3, and fewer than so many contacts.
+fn drawn(random: &mut Random, ticks: u32, most: usize) -> (Opening, Contacts) {
+    let opening = Opening::new(
+        random.between(2, 4),
+        random.between(1, ticks),
+        random.between(1, 3),
+    );
+    let number = random.below(most);
+    let contacts = (0..number).map(|_| cases::contact(random, opening));
+    (opening, contacts.collect())
+}
+
 #[test]
 fn search_finds_what_listing_every_journey_finds() {
     let mut random = Random::new(201);
     for _ in 0..2_000 {
-        let opening = Opening::new(
-            random.between(2, 4),
-            random.between(1, 5),
-            random.between(1, 3),
-        );
-        let number = random.below(10);
-        let contacts: Contacts = (0..number)
-            .map(|_| cases::contact(&mut random, opening))
-            .collect();
+        let (opening, contacts) = drawn(&mut random, 5, 10);
         let mut expected = listed(opening, &contacts);
         for (place, cell) in expected.iter_mut().enumerate() {
             let is_one = place % (opening.animals as usize + 1) == 0;
@@ -190,15 +194,7 @@ fn earliest_and_latest_are_the_minimal_intervals_of_listing_every_journey() {
     let (mut found, mut nothing) = (0, 0);
     let (mut other_departures, mut other_arrivals) = (0, 0);
     for _ in 0..2_000 {
-        let opening = Opening::new(
-            random.between(2, 4),
-            random.between(1, 9),
-            random.between(1, 3),
-        );
-        let number = random.below(18);
-        let contacts: Contacts = (0..number)
-            .map(|_| cases::contact(&mut random, opening))
-            .collect();
+        let (opening, contacts) = drawn(&mut random, 9, 18);
         let n = opening.animals;
         let journeys = Journeys::new(opening, contacts.clone());
         for (pair, all) in (0..).zip(&listed(opening, &contacts)) {

@@ -1,21 +1,20 @@
 -- The row that is looked for in a rising cell: the interval that it has, and what else is read off it.
 use mathlib.Core.Path.{_≡_, refl, sym, ap, subst, _∙_}
 use mathlib.Core.Logic.{⊎-elim}
-use mathlib.Core.Bool.{Bool, true, false, cond, _&&_}
+use mathlib.Core.Bool.{Bool, false, cond}
 use mathlib.Core.Option.{Option, none, some, Option·map}
 use mathlib.Core.List.{List, List·Memᴰ}
 use Prim.Native.Nat.{ℕ, zero, suc, _+_, _-_, _≤_, _<_}
 use native.Mathlib.Nat.{le-refl}
-use native.Mathlib.Numerals.{add-one}
 use native.Mathlib.Omega.{arith}
 use lib.ListN.{length, getD}
-use lib.Dec.{ltb, leb, eqb}
-use borrow.Author.Tests.{lt-ltb, le-ltb, le-leb, eq-eqb, ne-eqb}
-use Rattle.journeys.specs.Journey.{Interval, interval, Inside}
+use lib.Dec.{eqb}
+use borrow.Author.Tests.{lt-ltb, le-ltb, eq-eqb, ne-eqb}
+use Rattle.journeys.specs.Journey.{Interval, interval}
 use Rattle.journeys.specs.Cell.{Cell, Rising, latestDeparting, earliestArriving, latestDeparture, earliestArrival, inside, hasInside}
 use Rattle.journeys.proofs.Tests.{never, Outcome, holds, fails, same-outcome, lt-outcome, inside-outcome}
 use Rattle.journeys.proofs.First.{FirstOf, nothing-asked, first-asked, DepartsFrom, ArrivesNoLater, earliest-arriving}
-use Rattle.journeys.proofs.Cover.{Covers, covers-find, covers-member, member-covers, rising-least, hasInside-outcome, departure-path, arrival-path, interval-path}
+use Rattle.journeys.proofs.Cover.{covers-find, covers-member, member-covers, rising-least, hasInside-outcome, interval-path}
 use Rattle.words.specs.Layout.{get}
 use Rattle.words.specs.Words.{rowsField, departureField, arrivalField, intervalOf}
 use Rattle.rules.specs.Answers.{ends}
@@ -27,7 +26,7 @@ use Rattle.cells.specs.declared.RowFound.{RowFound}
 use Rattle.cells.specs.declared.RowFound.the-variants.{At, Nothing}
 use Rattle.cells.specs.Stored.{RowsInUse, departureEnd, arrivalEnd, frontBelow, orZero}
 use Rattle.cells.specs.Rows.{rowAt, rowBefore, firstDeparting, lastArriving, intervalFound}
-use Rattle.cells.proofs.Search.{front-length, front-at, earliest-none, earliest-some, latest-none, latest-some}
+use Rattle.cells.proofs.Search.{front-length, earliest-none, earliest-some, latest-none, latest-some}
 use Rattle.cells.proofs.Lent.{in-use-length, row-is}
 
 -- ---- the row at an index

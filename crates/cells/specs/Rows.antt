@@ -7,7 +7,6 @@ use lib.Dec.{ltb}
 use Rattle.journeys.specs.Journey.{Interval, interval}
 use Rattle.journeys.specs.Cell.{Cell}
 use Rattle.rules.specs.Answers.{ends}
-use Rattle.cells.specs.declared.Row.{Row}
 use Rattle.cells.specs.declared.RowFound.{RowFound}
 use Rattle.cells.specs.declared.RowFound.the-variants.{At, Nothing}
 use Rattle.cells.specs.Stored.{departureEnd, arrivalEnd, frontBelow}

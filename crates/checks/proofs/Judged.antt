@@ -18,7 +18,6 @@ use Rattle.rules.specs.Checks.{isOpen, wellFormed, ValidTable, ensureTable}
 use Rattle.rules.specs.Adding.{ensurePair}
 use Rattle.rules.specs.Windows.{lastArrival, windowInRange, inOrder, ensureWindow}
 use Rattle.rules.specs.Questions.{ensureAnimal}
-use Rattle.rules.proofs.Folds.{and-left, and-right}
 use Rattle.rules.proofs.Judged.{ensure-iff}
 use Rattle.rules.proofs.Asked.{valid-behind, PairOf, pair-behind}
 use Rattle.checks.specs.declared.Verdict.{Verdict}

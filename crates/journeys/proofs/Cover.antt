@@ -1,15 +1,14 @@
 -- A cell is known by what it covers: an interval is covered where some interval of the cell lies inside it.
 use mathlib.Core.Path.{_≡_, refl, sym, ap, ap₂}
-use mathlib.Core.Logic.{_↔_, _⊎_, inl, inr, ⊎-elim}
-use mathlib.Core.Bool.{Bool, true, false, cond, _||_}
+use mathlib.Core.Logic.{_↔_, _⊎_, ⊎-elim}
+use mathlib.Core.Bool.{Bool, _||_}
 use mathlib.Core.Option.{Option, none, some, Option·map}
-use mathlib.Core.List.{List, [], _∷_, List·Memᴰ, List·Memᴰ·head, List·Memᴰ·tail, Memᴰ·cast}
-use Prim.Native.Nat.{ℕ, _+_, _≤_, _<_}
+use mathlib.Core.List.{[], _∷_, List·Memᴰ, List·Memᴰ·head, List·Memᴰ·tail}
+use Prim.Native.Nat.{ℕ, _≤_, _<_}
 use native.Mathlib.Omega.{arith}
-use lib.Dec.{leb}
 use Rattle.journeys.specs.Journey.{Interval, interval, Inside}
-use Rattle.journeys.specs.Cell.{Cell, Before, Rising, latestDeparting, latestDeparture, earliestArrival, inside, hasInside}
-use Rattle.journeys.proofs.Tests.{Outcome, holds, fails, le-outcome, or-outcome, inside-outcome}
+use Rattle.journeys.specs.Cell.{Cell, Rising, latestDeparting, latestDeparture, earliestArrival, hasInside}
+use Rattle.journeys.proofs.Tests.{Outcome, holds, fails, le-outcome, inside-outcome}
 use Rattle.journeys.proofs.First.{FirstOf, nothing-asked, first-asked, first-some, DepartsFrom, ArrivesBy, ArrivesNoLater, DepartsNoEarlier, latest-departing, earliest-arriving}
 
 -- Some interval of the cell lies inside i, or equals it.

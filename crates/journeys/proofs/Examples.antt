@@ -1,8 +1,8 @@
 -- Worked examples of document 01, by computation: the session's cells, P7, P8 and P9.
 use mathlib.Core.Path.{_≡_, refl}
-use mathlib.Core.List.{List, [], _∷_, _++_, map}
+use mathlib.Core.List.{List, [], _∷_, _++_}
 use Prim.Native.Nat.{ℕ, zero, suc}
-use Rattle.journeys.specs.Journey.{Contact, contact, Interval, interval}
+use Rattle.journeys.specs.Journey.{Contact, contact, interval}
 use Rattle.journeys.specs.Cell.{Cell, later, sooner, latestDeparting, earliestArriving, latestDeparture, earliestArrival, hasInside, withoutContaining, putInOrder, enter}
 use Rattle.journeys.specs.Adding.{departureOf, arrivalOf, enterBoth, add, addAll, cellsOver}
 

@@ -1,18 +1,15 @@
 -- The questions are answered as demand 2 asks, on any fresh table.
 use mathlib.Core.Path.{_≡_, refl, sym, ap, ap₂, _∙_, subst}
-use mathlib.Core.Logic.{_↔_, _≢_, ⊎-elim}
+use mathlib.Core.Logic.{_↔_, _≢_}
 use mathlib.Core.Bool.{Bool, true, false, cond, not, _&&_, _||_}
 use mathlib.Core.Option.{Option, none, some}
 use mathlib.Core.List.{List, [], _∷_, List·Memᴰ, List·Memᴰ·head}
 use Prim.Native.Nat.{ℕ, zero, suc, _+_, _*_, _/_, _%_, _^_, _≤_, _<_}
-use native.Mathlib.Nat.{le-refl}
-use native.Mathlib.Decide.{ℕ-discrete}
 use native.Mathlib.Omega.{arith}
 use lib.ListN.{length, getD, replicate, length-append}
-use lib.Dec.{ltb, eqb}
-use Rattle.journeys.specs.Journey.{Contacts, Interval, interval, Inside, Journey, Minimal}
-use Rattle.journeys.specs.Cell.{Cell, hasInside}
-use Rattle.journeys.proofs.Tests.{untrue, never, Outcome, holds, fails, outcome-iff, eq-outcome, lt-outcome, and-outcome, or-outcome}
+use lib.Dec.{eqb}
+use Rattle.journeys.specs.Journey.{Contacts, Interval, Inside, Journey, Minimal}
+use Rattle.journeys.proofs.Tests.{untrue, Outcome, holds, fails, outcome-iff, eq-outcome, lt-outcome}
 use Rattle.journeys.proofs.Cover.{Covers, covers-find, member-covers, hasInside-outcome}
 use Rattle.journeys.proofs.Theorems.{fits-stored}
 use Rattle.rules.specs.Limits.{maxAnimals}
@@ -20,8 +17,8 @@ use Rattle.rules.specs.declared.AskAnswer.the-variants.{Yes, No}
 use Rattle.rules.specs.declared.SetAnswer.the-variants.{Found}
 use Rattle.rules.specs.declared.Refusal.{Refusal}
 use Rattle.rules.specs.Answers.{unless}
-use Rattle.rules.specs.Folds.{flat, allBelow, sumBelow, countBelow}
-use Rattle.rules.specs.Layout.{animals, cellAt, cellOf, cellsOf}
+use Rattle.rules.specs.Folds.{flat, allBelow, countBelow}
+use Rattle.rules.specs.Layout.{cellAt, cellOf, cellsOf}
 use Rattle.rules.specs.Questions.{reaches, reachAnswer, connects, connectedAnswer, isReached, setWord, setWords, reachedRefusal, reachedAnswer, reachedWords, reachedCount}
 use Rattle.rules.specs.Fresh.{Fresh}
 use Rattle.rules.specs.Orders.{Sorted}
@@ -36,7 +33,7 @@ use Rattle.rules.proofs.Asked.{yes-iff, no-iff, valid-fresh, reach-aske
 module _ {n τ δ : ℕ} {S : Contacts} {T : List ℕ} (f : Fresh n τ δ S T) where
   -- ---- stored intervals
 
-  pub cell-is : (u v : ℕ) → IsPair n u v → cellsOf T u v ≡ f .cells u v
+  cell-is : (u v : ℕ) → IsPair n u v → cellsOf T u v ≡ f .cells u v
   cell-is u v p = fresh-cells f u v (p .from-below) (p .to-below)
 
   -- The cell read by the table's numbers is that of the set.

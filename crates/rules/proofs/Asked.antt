@@ -1,12 +1,12 @@
 -- When a question is not refused, and what its answer then says.
-use mathlib.Core.Path.{_≡_, refl, sym, ap, _∙_, subst}
-use mathlib.Core.Logic.{_↔_, _≢_}
-use mathlib.Core.Bool.{Bool, true, false, cond, not, _&&_}
+use mathlib.Core.Path.{_≡_, refl, sym, ap, subst}
+use mathlib.Core.Logic.{_↔_}
+use mathlib.Core.Bool.{Bool, true, false, not, _&&_}
 use mathlib.Core.Option.{Option, none, some}
 use mathlib.Core.List.{List}
 use Prim.Native.Nat.{ℕ, _+_, _≤_, _<_}
 use native.Mathlib.Omega.{arith}
-use lib.Dec.{ltb, leb, eqb}
+use lib.Dec.{ltb, eqb}
 use borrow.Author.Tests.{lt-ltb, ltb-true, le-leb, ne-eqb}
 use Rattle.journeys.specs.Journey.{Contacts, Interval, interval}
 use Rattle.journeys.proofs.Tests.{never, untrue}
@@ -22,7 +22,7 @@ use Rattle.rules.specs.Checks.{isOpen, wellFormed, ensureTable, ValidTab
 use Rattle.rules.specs.Adding.{ensurePair}
 use Rattle.rules.specs.Questions.{ensureAnimal, reachRefusal, momentRefusal, connectedRefusal, reachedRefusal}
 use Rattle.rules.specs.Fresh.{Fresh}
-use Rattle.rules.specs.Windows.{lastArrival, windowInRange, inOrder, ensureWindow, ensureMoment, IsWindow, IsPair}
+use Rattle.rules.specs.Windows.{lastArrival, windowInRange, inOrder, ensureWindow, IsWindow, IsPair}
 use Rattle.rules.proofs.Folds.{and-left, and-right, and-intro}
 use Rattle.rules.proofs.Judged.{ensure-iff, within-iff}
 use Rattle.rules.proofs.Fresh.{fresh-passes, fresh-animals, fresh-ticks, fresh-carry}

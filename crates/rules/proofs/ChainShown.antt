@@ -1,24 +1,22 @@
 -- The chain shown is the one that the rule names.
 use mathlib.Core.Path.{_≡_, refl, sym, ap, _∙_, subst}
-use mathlib.Core.Logic.{_↔_, _⊎_, inl, inr, ⊎-elim, _≢_}
-use mathlib.Core.Bool.{Bool, true, false, cond}
+use mathlib.Core.Logic.{_↔_, _⊎_, ⊎-elim}
+use mathlib.Core.Bool.{Bool, cond}
 use mathlib.Core.Option.{Option, none, some, Option·map}
 use mathlib.Core.List.{List, [], _∷_, _++_, map, List·Memᴰ, List·Memᴰ·cases-cons, List·Memᴰ·not-nil}
-use Prim.Native.Nat.{ℕ, zero, suc, _+_, _-_, _≤_, _<_}
+use Prim.Native.Nat.{ℕ, suc, _+_, _-_, _≤_, _<_}
 use native.Mathlib.Nat.{le-refl}
 use native.Mathlib.Omega.{arith}
 use lib.ListN.{length, drop}
 use lib.Dec.{leb}
 use borrow.Author.Tests.{le-leb}
 use Rattle.journeys.specs.Journey.{Contact, Contacts, Interval, interval, Inside, Journey, Minimal}
-use Rattle.journeys.specs.Cell.{Cell, latestDeparting, earliestArriving, latestDeparture, earliestArrival}
+use Rattle.journeys.specs.Cell.{latestDeparting, earliestArriving, latestDeparture, earliestArrival}
 use Rattle.journeys.proofs.Tests.{never, Outcome, holds, fails, inside-outcome}
 use Rattle.journeys.proofs.Cover.{departure-path}
 use Rattle.words.specs.Words.{contactWord}
-use Rattle.rules.specs.declared.Refusal.{Refusal}
 use Rattle.rules.specs.declared.Refusal.the-variants.{ChainBufferTooShort}
 use Rattle.rules.specs.declared.ChainAnswer.the-variants.{Chain, NoJourney}
-use Rattle.rules.specs.Answers.{ensure}
 use Rattle.rules.specs.Layout.{animals, cellsOf}
 use Rattle.rules.specs.Chains.{withTick, chainFrom, chainOf, chainRefusal, chainAnswer, chainLeaves}
 use Rattle.rules.specs.ChainRule.{IsChain, NamedChain}

@@ -1,16 +1,14 @@
 -- A claimed chain is answered yes exactly when its words spell a fitting journey.
 use mathlib.Core.Path.{_≡_, refl, sym, ap, ap₂, _∙_, subst}
-use mathlib.Core.Logic.{_↔_, _⊎_, inl, inr, ⊎-elim, _≢_}
-use mathlib.Core.Bool.{Bool, true, false, cond, _&&_}
-use mathlib.Core.Option.{Option, none, some}
+use mathlib.Core.Logic.{_↔_, _⊎_, ⊎-elim, _≢_}
+use mathlib.Core.Bool.{true, _&&_}
 use mathlib.Core.List.{List, [], _∷_, map}
 use Prim.Native.Nat.{ℕ, _+_, _≤_, _<_}
-use native.Mathlib.Nat.{le-refl}
 use native.Mathlib.Omega.{arith}
 use lib.ListN.{getD}
 use lib.Dec.{leb, ltb, eqb}
 use borrow.Author.Tests.{eqb-true, eq-eqb, leb-true, le-leb, ltb-true, lt-ltb}
-use Rattle.journeys.specs.Journey.{Contact, contact, Contacts, Interval, interval, JourneyTo, single, onward, Journey}
+use Rattle.journeys.specs.Journey.{Contact, contact, Contacts, Interval, JourneyTo, single, onward, Journey}
 use Rattle.journeys.proofs.Tests.{untrue, never, outcome-iff, inside-outcome}
 use Rattle.words.specs.Layout.{isOf}
 use Rattle.words.specs.Words.{contactLayout, contactOf, contactWord}

@@ -1,14 +1,13 @@
 -- Any two engines with questions that meet demand 2 agree.
 use mathlib.Core.Path.{_≡_, refl, sym, ap, _∙_}
-use mathlib.Core.Logic.{_↔_, _⊎_, inl, inr, ⊎-elim}
+use mathlib.Core.Logic.{_↔_, _⊎_, inl, inr}
 use mathlib.Core.Option.{Option, none, some}
-use mathlib.Core.List.{List, List·Memᴰ}
+use mathlib.Core.List.{List}
 use Prim.Native.Nat.{ℕ, _+_, _≤_, _<_}
 use native.Mathlib.Omega.{arith}
 use lib.ListN.{length}
 use Rattle.journeys.specs.Journey.{Contacts, Interval}
 use Rattle.journeys.proofs.Tests.{never}
-use Rattle.rules.specs.Limits.{maxAnimals}
 use Rattle.rules.specs.declared.Refusal.{Refusal}
 use Rattle.rules.specs.declared.AskAnswer.{AskAnswer}
 use Rattle.rules.specs.declared.AskAnswer.the-variants.{Yes, No, Refused as AskRefused}
@@ -16,12 +15,11 @@ use Rattle.rules.specs.declared.Ends.{Ends}
 use Rattle.rules.specs.declared.IntervalAnswer.{IntervalAnswer}
 use Rattle.rules.specs.declared.IntervalAnswer.the-variants.{At, Nothing}
 use Rattle.rules.specs.Answers.{ends, intervalAnswerOf}
-use Rattle.rules.specs.Layout.{cellsOf}
 use Rattle.rules.specs.Questions.{momentRefusal, earliestAnswer, latestAnswer}
 use Rattle.rules.specs.Fresh.{Fresh}
 use Rattle.rules.specs.Windows.{IsWindow, IsPair, Fits}
-use Rattle.rules.specs.Demand2.{Questions, questions, BitSet, AnsweredOn, Demand2}
-use Rattle.rules.specs.Determined.{AgreeOn, AgreeWith, DeterminedAnswers}
+use Rattle.rules.specs.Demand2.{Questions, questions, AnsweredOn}
+use Rattle.rules.specs.Determined.{AgreeOn, DeterminedAnswers}
 use Rattle.rules.proofs.Judged.{none-some}
 use Rattle.rules.proofs.Sorted.{sorted-unique}
 use Rattle.rules.proofs.Asked.{valid-fresh, moment-asked}

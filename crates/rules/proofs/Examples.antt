@@ -1,6 +1,6 @@
 -- The worked examples hold: all that the rows say is computed at once, and one law reads off each.
 use mathlib.Core.Path.{_≡_, refl}
-use mathlib.Core.List.{List, map, List·Memᴰ}
+use mathlib.Core.List.{List, map}
 use Rattle.journeys.specs.Cell.{later, sooner, latestDeparting, earliestArriving, latestDeparture, earliestArrival, hasInside, withoutContaining, putInOrder, enter}
 use Rattle.journeys.specs.Adding as Rule
 use Rattle.words.specs.Layout.{isOf}

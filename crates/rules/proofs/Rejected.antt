@@ -1,17 +1,15 @@
 -- Each wrong engine goes wrong on a list of calls, so it does not meet demand 3, nor demand 2 where its tables store wrong intervals.
-use mathlib.Core.Path.{_≡_, refl, sym, ap, _∙_, subst}
-use mathlib.Core.Logic.{_↔_, _⊎_, inl, inr, ⊎-elim}
-use mathlib.Core.Bool.{Bool, true, false, cond}
-use mathlib.Core.List.{List, [], _∷_, _++_, List·Memᴰ, List·Memᴰ·head, List·Memᴰ·tail, List·Memᴰ·cases-cons, List·Memᴰ·not-nil}
-use Prim.Native.Nat.{ℕ, zero, suc, _+_, _≤_}
+use mathlib.Core.Path.{_≡_, refl, sym, ap, subst}
+use mathlib.Core.Logic.{_↔_, _⊎_, inl, ⊎-elim}
+use mathlib.Core.List.{List, [], _∷_, List·Memᴰ, List·Memᴰ·head, List·Memᴰ·tail, List·Memᴰ·cases-cons, List·Memᴰ·not-nil}
+use Prim.Native.Nat.{ℕ, suc, _+_}
 use native.Mathlib.Omega.{arith}
-use lib.ListN.{length, getD, replicate}
+use lib.ListN.{getD, replicate}
 use Rattle.journeys.specs.Journey.{Contact, contact, Interval, interval}
 use Rattle.journeys.specs.Cell.{later, sooner, latestDeparting, earliestArriving, latestDeparture, earliestArrival, hasInside, withoutContaining, putInOrder, enter}
 use Rattle.journeys.specs.Adding.{departureOf, arrivalOf, enterBoth, add}
 use Rattle.journeys.proofs.Tests.{never}
 use Rattle.words.specs.Layout.{isOf}
-use Rattle.rules.specs.declared.OpenAnswer.{OpenAnswer}
 use Rattle.rules.specs.declared.OpenAnswer.the-variants.{Opened, Refused as OpenRefused}
 use Rattle.rules.specs.declared.AddAnswer.{AddAnswer}
 use Rattle.rules.specs.declared.AddAnswer.the-variants.{New, Known, Refused as AddRefused}
@@ -21,12 +19,12 @@ use Rattle.rules.specs.Checks.{isOpen, rowWellFormed, rowsWellFormed, al
 use Rattle.rules.specs.Opening.{openRefusal, openAnswer, openLeaves}
 use Rattle.rules.specs.Adding.{Legal, stands, sameCell, cellsChanged, addRefusal, addedCells, holds, addAnswer, addLeaves}
 use Rattle.rules.specs.Logs.{held, heldContacts, logWords, writeRefusal, writeAnswer, writeLeaves}
-use Rattle.rules.specs.CallLists.{Engine, engine, run, tableAfter, LegalOf, Accepted}
+use Rattle.rules.specs.CallLists.{Engine, engine, run, tableAfter, LegalOf}
 use Rattle.rules.specs.Orders.{Sorted, Earlier}
 use Rattle.rules.specs.Windows.{IsPair}
 use Rattle.rules.specs.Demand2.{Questions, questions, StoredIn, Demand2}
 use Rattle.rules.specs.Demand3.{Demand3}
-use Rattle.rules.specs.Determined.{AgreeAfter, Agree}
+use Rattle.rules.specs.Determined.{AgreeAfter}
 use Rattle.rules.specs.Wrong.{leavesTable, loneContacts, joinsEarlier, joinsLater, firstPairOnly, keepsDisplaced, countsOne, alwaysKnown, alwaysNew, refusesAdds, refusesOpenings, unsortedLog, repeatsInLog, Rejected, RejectedTables}
 use Rattle.rules.proofs.Demand3.{demand3}
 use Rattle.rules.proofs.Determined.{determined}

@@ -82,13 +82,13 @@ module _ (Q : Questions) (n τ δ : ℕ) (S : Contacts) (T : List ℕ) where
     -- "A question is answered yes when a journey fits its window and no when none does."
     pub reach-yes : (u v first last : ℕ) → IsPair n u v → IsWindow τ δ first last → (Q .reach T u v first last ≡ Yes) ↔ Fits S δ u v first last
     pub reach-no : (u v first last : ℕ) → IsPair n u v → IsWindow τ δ first last → (Q .reach T u v first last ≡ No) ↔ (¬ Fits S δ u v first last)
-    -- Earliest arrival from a first tick: [a, b] exactly when it is minimal for the pair, departs at or after first, and no journey that
-    -- departs at or after first arrives before b; none exactly when no journey departs then.
+    -- Earliest arrival from a first tick on: the answer is the minimal interval of the pair that leaves at first or later and than which no
+    -- journey leaving at first or later is there sooner; it is none exactly when no journey leaves then.
     pub earliest-at : (u v first : ℕ) → IsPair n u v → 1 ≤ first → first ≤ τ + δ
         → (e : Ends) → (Q .earliest T u v first ≡ At e) ↔ Earliest (Minimal S δ u v) (Journey S δ u v) first (interval (e .departure) (e .arrival))
     pub earliest-none : (u v first : ℕ) → IsPair n u v → 1 ≤ first → first ≤ τ + δ → (Q .earliest T u v first ≡ Nothing) ↔ NoneDeparts (Journey S δ u v) first
-    -- Latest departure by a last tick: [a, b] exactly when it is minimal for the pair, arrives by last, and no journey that arrives by last
-    -- departs after a; none exactly when no journey arrives by then.
+    -- Latest departure by a last tick: the answer is the minimal interval of the pair that is there by last and than which no journey that is
+    -- there by last leaves later; it is none exactly when no journey is there by then.
     pub latest-at : (u v last : ℕ) → IsPair n u v → 1 ≤ last → last ≤ τ + δ
         → (e : Ends) → (Q .latest T u v last ≡ At e) ↔ Latest (Minimal S δ u v) (Journey S δ u v) last (interval (e .departure) (e .arrival))
     pub latest-none : (u v last : ℕ) → IsPair n u v → 1 ≤ last → last ≤ τ + δ → (Q .latest T u v last ≡ Nothing) ↔ NoneArrives (Journey S δ u v) last

@@ -3,22 +3,22 @@
 use Prim.Native.Nat.{ℕ, _≤_}
 use Rattle.journeys.specs.Journey.{Interval}
 
--- The interval is minimal, departs at or after first, and no journey that departs at or after first arrives before it.
+-- The interval is minimal and leaves at first or later, and every journey that leaves then is there no sooner.
 pub record Earliest (minimal journeys : Interval → Type 0) (first : ℕ) (i : Interval) : Type 0 where
   pub is-minimal : minimal i
   pub departs : first ≤ i .departure
   pub least : (j : Interval) → journeys j → first ≤ j .departure → i .arrival ≤ j .arrival
 
--- The interval is minimal, arrives by last, and no journey that arrives by last departs after it.
+-- The interval is minimal and is there by last, and every journey that is there by then leaves no later.
 pub record Latest (minimal journeys : Interval → Type 0) (last : ℕ) (i : Interval) : Type 0 where
   pub is-minimal : minimal i
   pub arrives : i .arrival ≤ last
   pub greatest : (j : Interval) → journeys j → j .arrival ≤ last → j .departure ≤ i .departure
 
--- No journey departs at or after first.
+-- No journey leaves at first or later.
 abbrev pub NoneDeparts : (Interval → Type 0) → ℕ → Type 0
 NoneDeparts journeys first = (j : Interval) → journeys j → ¬ (first ≤ j .departure)
 
--- No journey arrives by last.
+-- No journey is there by last.
 abbrev pub NoneArrives : (Interval → Type 0) → ℕ → Type 0
 NoneArrives journeys last = (j : Interval) → journeys j → ¬ (j .arrival ≤ last)

@@ -10,7 +10,6 @@ use Rattle.journeys.specs.Journey.{Contact, Interval, interval}
 use Rattle.journeys.specs.Cell.{Cell, later, latestDeparting, earliestArriving}
 use Rattle.rules.specs.declared.AskAnswer.{AskAnswer}
 use Rattle.rules.specs.declared.AskAnswer.the-variants.{Yes, No}
-use Rattle.rules.specs.declared.IntervalAnswer.{IntervalAnswer}
 use Rattle.rules.specs.Answers.{unless, askAnswerOf, intervalAnswerOf}
 use Rattle.rules.specs.Layout.{animals, cellsOf}
 use Rattle.rules.specs.Questions.{reaches, reachRefusal, momentRefusal}

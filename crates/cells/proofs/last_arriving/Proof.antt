@@ -1,6 +1,5 @@
 -- `cells::last_arriving` meets its contract: the search finds how many rows arrive by t, and the last of them is the row.
 use borrow.Author.Needs.{needs}
-use native.Mathlib.Omega.{arith}
 use mathlib.Core.Path.{_≡_, sym, ap, _∙_}
 use Prim.Native.Nat.{_+_}
 use Rattle.rules.specs.Layout.{cellOf}
