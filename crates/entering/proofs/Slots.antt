@@ -42,10 +42,15 @@ module _ (xs : List ℕ) (s : RowsInUse xs) (a : ℕ) where
 
 -- ---- the row found
 
-module _ (d a : ℕ) (c : Cell) (up : Rising c) {f : RowFound} (e : f ≡ firstDeparting c d) where
+-- In a rising cell f was found for the first row that departs at or after d.
+pub record Searched (d : ℕ) (c : Cell) (f : RowFound) : Type 0 where
+  pub rising : Rising c
+  pub found : f ≡ firstDeparting c d
+
+module _ (a : ℕ) {d : ℕ} {c : Cell} {f : RowFound} (g : Searched d c f) where
   -- What was found decides whether a row lies inside [d, a].
-  decides : {g : RowFound} → f ≡ g → hasInside (interval d a) c ≡ passes (λ j. inside j (interval d a)) (intervalFound g)
-  decides q = inside-found d a c up (sym q ∙ e)
+  decides : {h : RowFound} → f ≡ h → hasInside (interval d a) c ≡ passes (λ j. inside j (interval d a)) (intervalFound h)
+  decides q = inside-found d a c (g .rising) (sym q ∙ g .found)
 
   module _ (q : f ≡ Nothing) where
     -- Where no row departs at or after d, none lies inside.
@@ -55,16 +60,20 @@ module _ (d a : ℕ) (c : Cell) (up : Rising c) {f : RowFound} (e : f ≡ firstD
     -- And all rows depart by d.
     pub none-past : length c ≡ frontBelow departureEnd (d + 1) c
     none-past =
-        let l = first-not-there c d e q in
-        omega (arith, past-none departureEnd departure-follows d c (interval 0 0) up l, front-length departureEnd d c)
+        let l = first-not-there c d (g .found) q in
+        omega (arith, past-none departureEnd departure-follows d c (interval 0 0) (g .rising) l, front-length departureEnd d c)
 
   module _ {row : Row} (q : f ≡ At row) where
     here : IsRow c (frontBelow departureEnd d c) row
-    here = first-there c d e q
+    here = first-there c d (g .found) q
+
+    -- The row stands within the cell.
+    pub row-within : row .index < length c
+    row-within = let r = here in omega (arith, r .index-is, r .within)
 
     -- The row departs at or after d.
     departs : d ≤ row .ends .departure
-    departs = let h = here in omega (arith, front-at departureEnd d c (interval 0 0) (h .within), h .departure-is)
+    departs = let r = here in omega (arith, front-at departureEnd d c (interval 0 0) (r .within), r .departure-is)
 
     -- Where it arrives by a, it lies inside.
     pub row-inside : row .ends .arrival ≤ a → true ≡ hasInside (interval d a) c
@@ -77,20 +86,16 @@ module _ (d a : ℕ) (c : Cell) (up : Rising c) {f : RowFound} (e : f ≡ firstD
 
       -- And it and the rows behind it arrive after a.
       pub row-arrives : (frontBelow arrivalEnd a c ≤ row .index) × (row .index ≤ length c)
-      row-arrives = let r = here in omega (arith, arrive-le (interval d a) c (interval 0 0) up (sym row-outside), r .index-is, r .within)
+      row-arrives = let r = here in omega (arith, arrive-le (interval d a) c (interval 0 0) (g .rising) (sym row-outside), r .index-is, r .within)
 
     -- Where it departs at d, the row behind it is the first that departs after d.
     pub row-same : row .ends .departure ≡ d → row .index + 1 ≡ frontBelow departureEnd (d + 1) c
     row-same h =
         let r = here in
-        omega (arith, r .index-is, past-same departureEnd departure-follows d c (interval 0 0) up (r .within) (sym (r .departure-is) ∙ h))
+        omega (arith, r .index-is, past-same departureEnd departure-follows d c (interval 0 0) (g .rising) (r .within) (sym (r .departure-is) ∙ h))
 
     -- Else it is itself the first.
     pub row-other : (row .ends .departure ≡ d → ⊥) → row .index ≡ frontBelow departureEnd (d + 1) c
     row-other n =
         let r = here in
-        r .index-is ∙ past-other departureEnd departure-follows d c (interval 0 0) up (r .within) (λ h. n (r .departure-is ∙ h))
-
-    -- The row stands within the cell.
-    pub row-within : row .index < length c
-    row-within = let r = here in omega (arith, r .index-is, r .within)
+        r .index-is ∙ past-other departureEnd departure-follows d c (interval 0 0) (g .rising) (r .within) (λ h. n (r .departure-is ∙ h))

@@ -1,6 +1,6 @@
 -- A cell is known by what it covers: an interval is covered where some interval of the cell lies inside it.
 use mathlib.Core.Path.{_≡_, refl, sym, ap, ap₂}
-use mathlib.Core.Logic.{_↔_, _⊎_, ⊎-elim}
+use mathlib.Core.Logic.{_↔_, _⊎_, inl, inr, ⊎-elim}
 use mathlib.Core.Bool.{Bool, _||_}
 use mathlib.Core.Option.{Option, none, some, Option·map}
 use mathlib.Core.List.{[], _∷_, List·Memᴰ, List·Memᴰ·head, List·Memᴰ·tail}
@@ -8,7 +8,7 @@ use Prim.Native.Nat.{ℕ, _≤_, _<_}
 use native.Mathlib.Omega.{arith}
 use Rattle.journeys.specs.Journey.{Interval, interval, Inside}
 use Rattle.journeys.specs.Cell.{Cell, Rising, latestDeparting, latestDeparture, earliestArrival, hasInside}
-use Rattle.journeys.proofs.Tests.{Outcome, holds, fails, le-outcome, inside-outcome}
+use Rattle.journeys.proofs.Tests.{Outcome, holds, fails, either, inside-outcome}
 use Rattle.journeys.proofs.First.{FirstOf, nothing-asked, first-asked, first-some, DepartsFrom, ArrivesBy, ArrivesNoLater, DepartsNoEarlier, latest-departing, earliest-arriving}
 
 -- Some interval of the cell lies inside i, or equals it.
@@ -70,30 +70,25 @@ rising-least {p} i (x ∷ c) u (List·Memᴰ·head e) (there v) l = let b = arri
 rising-least {p} i (x ∷ c) u (List·Memᴰ·tail m) (here h) l = let r = rising-after x c u m in absurd (omega arith)
 rising-least {p} i (x ∷ c) u (List·Memᴰ·tail m) (there v) l = rising-least i c (u .1) m v l
 
--- In a rising cell two intervals with the same arrival are one.
-pub one-arrival : (i j : Interval) (c : Cell) → Rising c → List·Memᴰ i c → List·Memᴰ j c → i .arrival ≡ j .arrival → i ≡ j
-one-arrival i j c u m n e = go (le-outcome (j .departure) (i .departure))
-  where
-    go : {b : Bool} → Outcome (j .departure ≤ i .departure) (i .departure < j .departure) b → i ≡ j
-    go (holds h) = rising-least j c u n (covers-member m) (h, omega arith)
-    go (fails h) = sym (rising-least i c u m (covers-member n) (omega arith, omega arith))
+-- In a rising cell two intervals of which one lies inside the other are one.
+one-inside : (i j : Interval) (c : Cell) → Rising c → List·Memᴰ i c → List·Memᴰ j c → Inside i j ⊎ Inside j i → i ≡ j
+one-inside i j c u m n = ⊎-elim (rising-least j c u n (covers-member m)) (λ h. sym (rising-least i c u m (covers-member n) h))
 
--- So are two with the same departure.
+-- So are two with the same arrival.
+pub one-arrival : (i j : Interval) (c : Cell) → Rising c → List·Memᴰ i c → List·Memᴰ j c → i .arrival ≡ j .arrival → i ≡ j
+one-arrival i j c u m n e = one-inside i j c u m n (⊎-elim (λ h. inl (h, omega arith)) (λ h. inr (h, omega arith)) (either (j .departure) (i .departure)))
+
+-- And two with the same departure.
 pub one-departure : (i j : Interval) (c : Cell) → Rising c → List·Memᴰ i c → List·Memᴰ j c → i .departure ≡ j .departure → i ≡ j
-one-departure i j c u m n e = go (le-outcome (i .arrival) (j .arrival))
-  where
-    go : {b : Bool} → Outcome (i .arrival ≤ j .arrival) (j .arrival < i .arrival) b → i ≡ j
-    go (holds h) = rising-least j c u n (covers-member m) (omega arith, h)
-    go (fails h) = sym (rising-least i c u m (covers-member n) (omega arith, omega arith))
+one-departure i j c u m n e = one-inside i j c u m n (⊎-elim (λ h. inl (omega arith, h)) (λ h. inr (omega arith, h)) (either (i .arrival) (j .arrival)))
 
 -- In a rising cell an interval departs latest, of those that arrive by its own arrival.
 pub latest-itself : (i : Interval) (c : Cell) → Rising c → List·Memᴰ i c → latestDeparting c (i .arrival) ≡ some i
 latest-itself i c u m =
-    first-some (λ j k p q h l. one-departure j k c u p q (omega arith)) (latest-departing (i .arrival) c) i .1 (m, omega arith, λ j n h. go j n h (le-outcome (j .departure) (i .departure)))
+    first-some (λ j k p q h l. one-departure j k c u p q (omega arith)) (latest-departing (i .arrival) c) i .1 (m, omega arith, each)
   where
-    go : (j : Interval) → List·Memᴰ j c → j .arrival ≤ i .arrival → {b : Bool} → Outcome (j .departure ≤ i .departure) (i .departure < j .departure) b → j .departure ≤ i .departure
-    go j n h (holds l) = l
-    go j n h (fails l) = let e = departure-path (rising-least i c u m (covers-member n) (omega arith, h)) in omega arith
+    each : (j : Interval) → List·Memᴰ j c → j .arrival ≤ i .arrival → j .departure ≤ i .departure
+    each j n h = ⊎-elim (λ l. l) (λ l. let e = departure-path (rising-least i c u m (covers-member n) (l, h)) in omega arith) (either (j .departure) (i .departure))
 
 -- ---- a rising cell is known by what it covers
 

@@ -41,6 +41,14 @@ same-outcome x y (fails q) (fails s) = refl
 pub le-outcome : (a b : ℕ) → Outcome (a ≤ b) (b < a) (leb a b)
 le-outcome a b = outcome (leb a b) (leb-true a b) (leb-false a b)
 
+-- Of two numbers one is at most the other.
+pub either : (a b : ℕ) → (a ≤ b) ⊎ (b ≤ a)
+either a b = go (le-outcome a b)
+  where
+    go : {t : Bool} → Outcome (a ≤ b) (b < a) t → (a ≤ b) ⊎ (b ≤ a)
+    go (holds h) = inl h
+    go (fails h) = inr (omega arith)
+
 pub lt-outcome : (a b : ℕ) → Outcome (a < b) (b ≤ a) (ltb a b)
 lt-outcome a b = outcome (ltb a b) (ltb-true a b) (ltb-false a b)
 
