@@ -1,5 +1,6 @@
--- Worked examples of document 01, by computation: the session's cells, P7, P8 and P9.
+-- Worked examples, by computation: the session's cells, P7, P8 and P9 of document 01, and which of two intervals is found.
 use mathlib.Core.Path.{_≡_, refl}
+use mathlib.Core.Option.{some}
 use mathlib.Core.List.{List, [], _∷_, _++_}
 use Prim.Native.Nat.{ℕ, zero, suc}
 use Rattle.journeys.specs.Journey.{Contact, contact, interval}
@@ -71,3 +72,13 @@ displaced = refl
 returned : cellsOver 1 (contact 0 1 1 ∷ contact 1 0 2 ∷ []) 0 0 ≡ []
 unfolding cellsOver addAll add enterBoth departureOf arrivalOf enter putInOrder withoutContaining hasInside latestDeparture earliestArrival latestDeparting earliestArriving later sooner
 returned = refl
+
+-- Of two intervals that depart at or after a tick the one with the earlier arrival is found.
+earliest-of-two : earliestArriving (interval 1 2 ∷ interval 2 3 ∷ []) 1 ≡ some (interval 1 2)
+unfolding earliestArriving sooner
+earliest-of-two = refl
+
+-- Of two that arrive by a tick the one with the later departure is found.
+latest-of-two : latestDeparting (interval 1 2 ∷ interval 2 3 ∷ []) 3 ≡ some (interval 2 3)
+unfolding latestDeparting later
+latest-of-two = refl
