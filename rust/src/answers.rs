@@ -20,6 +20,15 @@ pub enum Added {
     Refused(u32),
 }
 
+/// The answer of [`join`](crate::join).
+#[derive(Clone, Copy, Debug, PartialEq, Eq)]
+pub enum Joined {
+    /// The first table holds every contact that the second one holds; so many of them were new to it.
+    New(u32),
+    /// The refusal's number; both tables keep their words.
+    Refused(u32),
+}
+
 /// The answer of [`read_log`](crate::read_log).
 #[derive(Clone, Copy, Debug, PartialEq, Eq)]
 pub enum Read {
@@ -109,6 +118,17 @@ impl Added {
             (0, number) => Added::Refused(number),
             (1, cells) => Added::New(cells),
             (2, cells) => Added::Known(cells),
+            _ => no_answer(reply),
+        }
+    }
+}
+
+impl Joined {
+    /// What the reply says.
+    pub(crate) fn of(reply: u64) -> Joined {
+        match parts(reply) {
+            (0, number) => Joined::Refused(number),
+            (1, contacts) => Joined::New(contacts),
             _ => no_answer(reply),
         }
     }

@@ -4,6 +4,12 @@
 extern "C" {
     pub fn herd_open(table: *mut u32, words: usize, animals: u32, ticks: u32, carry: u32) -> u64;
     pub fn herd_add(table: *mut u32, words: usize, u: u32, v: u32, t: u32) -> u64;
+    pub fn herd_join(
+        first: *mut u32,
+        first_words: usize,
+        second: *const u32,
+        second_words: usize,
+    ) -> u64;
     pub fn herd_read_log(log: *const u32, words: usize, table: *mut u32, room: usize) -> u64;
     pub fn herd_write_log(table: *const u32, words: usize, buffer: *mut u32, room: usize) -> u64;
     pub fn herd_reach(

@@ -1,9 +1,10 @@
 //! Safe calls of the proved contact tracing engine.
 //!
 //! The caller lends a table of 1 + n·n·(τ+1) words for n animals and τ ticks. [`open`] opens it, [`add`] adds a contact,
-//! [`read_log`] loads a whole log and [`write_log`] writes one. [`reach`], [`earliest`], [`latest`], [`connected`],
-//! [`reached`] and [`chain`] ask about the journeys of the contacts that were added, and [`claimed`] judges a chain that
-//! somebody claims. A call keeps nothing but the words lent to it, and reads and writes only these.
+//! [`join`] adds all contacts of a second table, [`read_log`] loads a whole log and [`write_log`] writes one. [`reach`],
+//! [`earliest`], [`latest`], [`connected`], [`reached`] and [`chain`] ask about the journeys of the contacts that were
+//! added, and [`claimed`] judges a chain that somebody claims. A call keeps nothing but the words lent to it, and reads and
+//! writes only these.
 //!
 //! A contact leaves one animal at a tick and arrives at another when the carry time is over. A journey is a row of
 //! contacts, at least one, each leaving the animal that the one before it reached, no earlier than it got there. A window
@@ -44,13 +45,16 @@
 //! | those with ticks | 9 | a tick is out of range, or first is after last |
 //! | `chain` | 10 | the buffer is shorter than n−1 words |
 //! | `write_log` | 15 | the buffer is shorter than the contacts held and 2 |
+//! | `join` | 17 | the two tables have different opening words |
+//!
+//! `join` judges its first table by 5 and 6, and then its second one likewise.
 //!
 //! The tick of a contact is 1 to τ; every tick of a question is 1 to τ+δ, with δ the carry time.
 //!
 //! # A session
 //!
 //! ```
-//! use herd::{Added, Answer, Chain, Found, Interval, Opened};
+//! use herd::{Added, Answer, Chain, Found, Interval, Joined, Opened};
 //!
 //! let mut table = vec![0; 1 + 4 * 4 * 7];
 //! assert_eq!(herd::open(&mut table, 4, 6, 1), Opened::Opened);
@@ -63,6 +67,13 @@
 //! let mut words = [0; 3];
 //! assert_eq!(herd::chain(&table, 0, 3, 1, 7, &mut words), Chain::Contacts(2));
 //! assert_eq!(words, [0x4000_0401, 0x4004_0C03, 0]);
+//!
+//! let mut other_yard = vec![0; 1 + 4 * 4 * 7];
+//! assert_eq!(herd::open(&mut other_yard, 4, 6, 1), Opened::Opened);
+//! assert_eq!(herd::add(&mut other_yard, 0, 1, 2), Added::New(1));
+//! assert_eq!(herd::add(&mut other_yard, 3, 2, 6), Added::New(1));
+//! assert_eq!(herd::join(&mut table, &other_yard), Joined::New(1));
+//! assert_eq!(herd::reach(&table, 0, 2, 2, 7), Answer::Yes);
 //! ```
 //!
 //! # Tests
@@ -77,8 +88,8 @@ mod questions;
 mod tables;
 pub mod testing;
 
-pub use answers::{Added, Answer, Chain, Found, Interval, Opened, Reached, Read, Written};
+pub use answers::{Added, Answer, Chain, Found, Interval, Joined, Opened, Reached, Read, Written};
 pub use chains::{chain, claimed};
 pub use logs::{read_log, write_log};
 pub use questions::{connected, earliest, latest, reach, reached};
-pub use tables::{add, open};
+pub use tables::{add, join, open};

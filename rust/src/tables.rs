@@ -1,7 +1,7 @@
-//! Opening a table, and adding a contact.
+//! Opening a table, adding a contact, and joining two tables.
 
-use crate::exports::{herd_add, herd_open};
-use crate::{Added, Opened};
+use crate::exports::{herd_add, herd_join, herd_open};
+use crate::{Added, Joined, Opened};
 
 /// Opens the table for so many animals and ticks and the carry time: writes every word of it, each cell empty.
 ///
@@ -20,4 +20,17 @@ pub fn open(table: &mut [u32], animals: u32, ticks: u32, carry: u32) -> Opened {
 pub fn add(table: &mut [u32], u: u32, v: u32, t: u32) -> Added {
     // SAFETY: pointer and length are those of one lent slice, and the engine is proved to stay inside.
     Added::of(unsafe { herd_add(table.as_mut_ptr(), table.len(), u, v, t) })
+}
+
+/// Adds the contacts that the second table holds to the first: by tick, then by the animal left, then by the animal met.
+///
+/// The answer says how many of them the first did not hold before. Both tables are open for the same animals and ticks and
+/// the same carry time, else it is refused with 17; the second is only read. Where adds built both, the first is afterwards
+/// what adding all contacts of both to one table would have made.
+#[inline]
+pub fn join(first: &mut [u32], second: &[u32]) -> Joined {
+    let (first_words, second_words) = (first.len(), second.len());
+    let (first, second) = (first.as_mut_ptr(), second.as_ptr());
+    // SAFETY: pointers and lengths are those of two lent slices, and the engine is proved to stay inside.
+    Joined::of(unsafe { herd_join(first, first_words, second, second_words) })
 }

@@ -2,8 +2,8 @@
 //!
 //! - `suite` makes calls and compares them with what they must come to.
 //! - `model` says by a plain search over contacts what a table must hold and answer.
-//! - `rule`, `check` and `calls` say it from the text of document 01, for tables that no adds built; `contents` is what both
-//!   ways of saying it have in common.
+//! - `rule`, `check` and `calls` say it from the text of documents 01 and 02, for tables that no adds built; `contents` is
+//!   what both ways of saying it have in common.
 //! - `sheet` says what the printing program writes; `program` runs a proved program.
 //! - `words` is the layout of words; `cases` and `random` make cases; `compare` compares words; `guard` is memory between
 //!   pages that cannot be read or written.

@@ -7,7 +7,7 @@ use herd::testing::suite::{draws, Call, Export, Lent, Reply, Suite};
 use herd::testing::words::{self, Cells, Opening};
 
 /// The refusals on a good table.
-const ON_GOOD_TABLES: [u32; 5] = [7, 8, 9, 10, 15];
+const ON_GOOD_TABLES: [u32; 6] = [7, 8, 9, 10, 15, 17];
 
 /// The refusals of opening and of reading a log.
 const ANEW: [u32; 8] = [1, 2, 3, 4, 11, 12, 13, 14];
@@ -229,7 +229,7 @@ fn calls_about_the_intervals_of_wide_tables_that_adds_built() {
         suite.compare_drawn(&mut random, &lent, &Export::ON_OPEN_TABLES, drawn);
     }
     suite.at_least(40, &ON_PAIRS, &ON_GOOD_TABLES);
-    let others = [Export::WriteLog, Export::Add, Export::Reached];
+    let others = [Export::WriteLog, Export::Add, Export::Join, Export::Reached];
     suite.at_least(20, &others, &ON_GOOD_TABLES);
     chains_up_to(&suite, 6, 20);
 }
@@ -262,7 +262,7 @@ fn calls_about_the_rows_of_long_cells_that_no_adds_built() {
         }
     }
     suite.at_least(40, &ON_PAIRS, &ON_GOOD_TABLES);
-    let others = [Export::WriteLog, Export::Add, Export::Reached];
+    let others = [Export::WriteLog, Export::Add, Export::Join, Export::Reached];
     suite.at_least(40, &others, &ON_GOOD_TABLES);
 }
 
@@ -406,6 +406,21 @@ fn refusals_come_in_order() {
         (unopened, Some(5)),
         (Vec::new(), Some(5)),
     ];
+    let mut seconds = tables.to_vec();
+    for (animals, ticks, carry) in [
+        (2, 4, 2),
+        (4, 4, 2),
+        (3, 3, 2),
+        (3, 5, 2),
+        (3, 4, 1),
+        (3, 4, 3),
+    ] {
+        let other = Opening::new(animals, ticks, carry);
+        let mut words = words::table(other, &cases::full_cells(other));
+        seconds.push((words.clone(), Some(17)));
+        words[other.cell_start(1, 1)] = words::count_word(1);
+        seconds.push((words, Some(6)));
+    }
     let animals = [
         (0, None),
         (1, None),
@@ -453,6 +468,9 @@ fn refusals_come_in_order() {
             let short = (room < 22).then_some(15);
             let buffer = random.words(room);
             ask(&[short], Call::WriteLog(buffer));
+        }
+        for (second, refusal) in &seconds {
+            ask(&[*refusal], Call::Join(second.clone()));
         }
         for ((first, last), window) in windows {
             ask(&[window], Call::Connected(first, last));

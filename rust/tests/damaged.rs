@@ -7,7 +7,10 @@ use herd::testing::words::{self, Cells, Interval, Opening};
 use std::collections::BTreeMap;
 
 /// The refusals of calls on an open table.
-const REFUSALS: [u32; 7] = [5, 6, 7, 8, 9, 10, 15];
+const REFUSALS: [u32; 8] = [5, 6, 7, 8, 9, 10, 15, 17];
+
+/// So many calls are one of each kind.
+const EACH: usize = Export::ON_OPEN_TABLES.len();
 
 /// A well-formed table with its cells.
 struct Good {
@@ -294,7 +297,7 @@ fn one_animal_with_itself_has_no_row_even_when_counted() {
         let row = Interval::new(1, 1 + good.opening.carry);
         lent.words[start + 1] = words::interval_word(row);
         let lent = lent.with(lent.words.clone());
-        turns.refuse(&lent, 9, 6, "counted row");
+        turns.refuse(&lent, EACH, 6, "counted row");
     }
 }
 
@@ -310,7 +313,7 @@ fn opening_word_is_judged_before_the_cells() {
             let (place, word) = damaged.expect("a place in every table");
             words[place] = word;
         }
-        turns.refuse(&good.lent.with(words), 9, 5, "both");
+        turns.refuse(&good.lent.with(words), EACH, 5, "both");
     }
 }
 
@@ -389,7 +392,7 @@ fn every_word_of_every_cell_length() {
         for place in 1..good.lent.words.len() {
             let bit = turns.random.between(22, 31);
             let lent = good.with(place, good.lent.words[place] ^ 1 << bit);
-            turns.refuse(&lent, if ticks <= 70 { 9 } else { 2 }, 6, "one bit");
+            turns.refuse(&lent, if ticks <= 70 { EACH } else { 2 }, 6, "one bit");
         }
     }
 }
@@ -457,9 +460,9 @@ fn nothing_but_random_words() {
     for _ in 0..10_000 {
         let opening = cases::opening(&mut turns.random);
         let mut words = turns.random.words(opening.table_words());
-        turns.take(&Lent::words(opening, words.clone()), 9);
+        turns.take(&Lent::words(opening, words.clone()), EACH);
         words[0] = words::opening_word(opening);
-        turns.refuse(&Lent::words(opening, words), 9, 6, "an opening word");
+        turns.refuse(&Lent::words(opening, words), EACH, 6, "an opening word");
     }
 }
 
@@ -475,7 +478,7 @@ fn wrong_lengths_are_refused() {
         let longer = right + 1 + turns.random.below(40);
         for length in [0, 1, anywhere, right - 1, right + 1, longer] {
             let lent = good.lent.with(words[..length].to_vec());
-            turns.refuse(&lent, 9, 5, "a wrong length");
+            turns.refuse(&lent, EACH, 5, "a wrong length");
         }
     }
 }
@@ -483,7 +486,7 @@ fn wrong_lengths_are_refused() {
 #[test]
 fn every_opening_word_over_a_short_table() {
     let mut turns = Turns::new(712);
-    for _ in 0..20_000 {
+    for _ in 0..25_000 {
         let random = &mut turns.random;
         let opening = Opening::new(
             random.between(1, 256),
@@ -511,6 +514,6 @@ fn a_length_that_another_opening_has() {
         let other = Opening::new(animals, ticks, 1);
         let mut words = table.clone();
         words[0] = words::opening_word(other);
-        turns.refuse(&Lent::words(other, words), 9, 5, "another length");
+        turns.refuse(&Lent::words(other, words), EACH, 5, "another length");
     }
 }

@@ -6,7 +6,7 @@ use herd::testing::model;
 use herd::testing::random::Random;
 use herd::testing::suite::{Call, Export, Lent, Reply, Suite};
 use herd::testing::words::{self, contacts, Contact, Interval, Opening};
-use herd::{Added, Chain, Opened, Reached, Read, Written};
+use herd::{Added, Chain, Joined, Opened, Reached, Read, Written};
 
 /// The session's log.
 const LOG: [u32; 5] = [
@@ -70,6 +70,26 @@ fn words_of_the_session() {
         let reached = herd::reached(&table, 0, 1, 7, &mut set);
         assert_eq!(reached, Reached::Animals(2));
         assert_eq!(set, [0b1010, 0, 0, 0, 0, 0, 0, 0, 7]);
+    }
+}
+
+#[test]
+fn the_session_in_two_yards() {
+    let mut random = Random::new(5);
+    let opening = Opening::new(4, 6, 1);
+    for turn in 0..27 {
+        let yards = [turn % 3, turn / 3 % 3, turn / 9];
+        let all_but_those_of = |other: u32| -> Vec<Contact> {
+            let listed = session().into_iter().zip(yards);
+            let here = listed.filter(|&(_, yard)| yard != other);
+            here.map(|(contact, _)| contact).collect()
+        };
+        let (first, second) = (all_but_those_of(1), all_but_those_of(2));
+        let new = 3 - first.len() as u32;
+        let mut joined = Lent::built(&mut random, opening, &first).words;
+        let second = Lent::built(&mut random, opening, &second).words;
+        assert_eq!(herd::join(&mut joined, &second), Joined::New(new));
+        same_words(&joined, &session_table(), yards);
     }
 }
 

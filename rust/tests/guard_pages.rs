@@ -3,10 +3,11 @@
 use herd::testing::cases;
 use herd::testing::compare::same_words;
 use herd::testing::guard::{Guarded, Memory, Place};
+use herd::testing::model;
 use herd::testing::random::Random;
 use herd::testing::suite::{draws, Call, Export, Lent, Reply, Suite};
 use herd::testing::words::{self, Opening};
-use herd::{Added, Answer, Chain, Found, Opened, Reached, Read, Written};
+use herd::{Added, Answer, Chain, Found, Joined, Opened, Reached, Read, Written};
 use std::env;
 use std::os::unix::process::ExitStatusExt;
 use std::process::Command;
@@ -75,7 +76,7 @@ fn tables_that_adds_built_stay_inside() {
     suite.at_least(
         30,
         &Export::ALL,
-        &[1, 2, 3, 4, 7, 8, 9, 10, 11, 12, 13, 14, 15],
+        &[1, 2, 3, 4, 7, 8, 9, 10, 11, 12, 13, 14, 15, 17],
     );
 }
 
@@ -91,7 +92,7 @@ fn tables_that_no_adds_built_stay_inside() {
     suite.at_least(
         30,
         &Export::ALL,
-        &[1, 2, 3, 4, 7, 8, 9, 10, 11, 12, 13, 14, 15],
+        &[1, 2, 3, 4, 7, 8, 9, 10, 11, 12, 13, 14, 15, 17],
     );
 }
 
@@ -124,8 +125,37 @@ fn full_cells_stay_inside() {
             cells[pair].retain(|_| random.once_in(2));
             let thinned = Lent::stored(opening, &cells);
             compare_drawn(&mut suite, &mut random, &thinned, 4);
+            let gone = full.held.len() - thinned.held.len();
+            for (first, second, new) in [
+                (&full, &full, 0),
+                (&full, &thinned, 0),
+                (&thinned, &full, gone as u32),
+            ] {
+                let call = Call::Join(second.words.clone());
+                let reply = suite.compare_at_guards(first, &call);
+                assert_eq!(reply, Reply::Joined(new), "{opening:?}");
+            }
         }
     }
+}
+
+#[test]
+fn joined_tables_stay_inside() {
+    let _turn = TURN.lock();
+    let mut random = Random::new(608);
+    let mut suite = Suite::default();
+    for _ in 0..1_500 {
+        let built = draws::built(&mut random);
+        let contacts = draws::contacts(&mut random, built.opening);
+        let second = model::fresh_table(built.opening, &contacts.into_iter().collect());
+        suite.compare_at_guards(&built, &Call::Join(second));
+        let stored = draws::stored(&mut random);
+        let cells = draws::cells(&mut random, stored.opening);
+        let second = words::table(stored.opening, &cells);
+        suite.compare_at_guards(&stored, &Call::Join(second));
+    }
+    let new = suite.times(Export::Join, |reply| matches!(reply, Reply::Joined(1..)));
+    assert!(new > 2_000, "{new}");
 }
 
 #[test]
@@ -269,6 +299,7 @@ fn tables_of_more_words_than_32_bits_count() {
     let log = words::log(opening, cases::legal_contacts(opening));
     assert_eq!(herd::read_log(&log, &mut lent), Read::Refused(4));
     assert_eq!(herd::add(&mut lent, 0, 1, 1), Added::Refused(5));
+    assert_eq!(herd::join(&mut lent, &table), Joined::Refused(5));
     let written = herd::write_log(&lent, &mut buffer);
     assert_eq!(written, Written::Refused(5));
     assert_eq!(herd::reach(&lent, 0, 1, 1, 7), Answer::Refused(5));
@@ -309,6 +340,12 @@ fn more_words_beside_a_table_than_32_bits_count() {
     assert_eq!(claimed, Answer::No);
     let claimed = herd::claimed(&table, 0, 1, 1, 7, &chain[..1]);
     assert_eq!(claimed, Answer::Yes);
+
+    let second = vast(&table);
+    let mut first = table.clone();
+    assert_eq!(herd::join(&mut first, &second), Joined::Refused(5));
+    let joined = herd::join(&mut first, &second[..table.len()]);
+    assert_eq!((joined, first), (Joined::New(0), table.clone()));
 
     let mut lent = vast(&log);
     let mut after = vec![5; table.len()];

@@ -4,7 +4,7 @@ use herd::testing::calls::accepted;
 use herd::testing::compare::{same_table, same_words};
 use herd::testing::model::{self, Contacts};
 use herd::testing::words::{self, contacts, Cells, Contact, Interval, Opening};
-use herd::{Added, Answer, Chain, Found, Opened, Reached, Read, Written};
+use herd::{Added, Answer, Chain, Found, Joined, Opened, Reached, Read, Written};
 
 /// The largest opening.
 const LARGEST: Opening = Opening {
@@ -227,6 +227,52 @@ fn reading_a_log() {
     same_table(&table, LARGEST, &cells, "largest");
     let joined = &cells[LARGEST.pair(3, 255)];
     assert_eq!(joined, &[Interval::new(1, 1025)]);
+}
+
+#[test]
+fn joining_two_tables() {
+    let (mut first, listed) = asked();
+    let more = contacts([(254, 7, 257), (255, 254, 1024), (0, 9, 1024), (7, 0, 512)]);
+    let length = first.len() - 1;
+    let mut second = vec![0x5555_5555; length];
+    let read = herd::read_log(&words::log(LARGEST, more), &mut second);
+    assert_eq!(read, Read::Contacts(4));
+    let before = model::minimal_intervals(LARGEST, &listed.into());
+    let lent = model::minimal_intervals(LARGEST, &more.into());
+
+    let (opening, last) = (second[0], length - 1);
+    let other = words::opening_word(Opening {
+        carry: 255,
+        ..LARGEST
+    });
+    (second[0], second[last]) = (other, 1);
+    for (of_first, words, number) in [(1, length - 1, 6), (0, length - 1, 5), (0, length, 6)] {
+        first[last] = of_first;
+        let joined = herd::join(&mut first[..length], &second[..words]);
+        assert_eq!(joined, Joined::Refused(number));
+    }
+    (second[0], second[last]) = (opening, 0);
+    for words in [length - 1, length + 1] {
+        let joined = herd::join(&mut first[..words], &second);
+        assert_eq!(joined, Joined::Refused(5));
+    }
+    let mut small = model::fresh_table(Opening::new(4, 6, 1), &Contacts::new());
+    let joined = herd::join(&mut first[..length], &small);
+    assert_eq!(joined, Joined::Refused(17));
+    assert_eq!(herd::join(&mut small, &second), Joined::Refused(17));
+    same_table(&first[..length], LARGEST, &before, "refused");
+
+    let joined = herd::join(&mut first[..length], &second);
+    assert_eq!(joined, Joined::New(3));
+    let both: Contacts = listed.into_iter().chain(more).collect();
+    let cells = model::minimal_intervals(LARGEST, &both);
+    same_table(&first[..length], LARGEST, &cells, "joined");
+    same_table(&second, LARGEST, &lent, "only read");
+    let across = &cells[LARGEST.pair(3, 9)];
+    assert_eq!(across, &[Interval::new(1, 1280)]);
+    assert_eq!(herd::join(&mut second, &first[..length]), Joined::New(4));
+    same_words(&second, &first[..length], "either way");
+    assert_eq!(first[length], 0);
 }
 
 #[test]

@@ -6,9 +6,9 @@ use herd::testing::contents::Contents;
 use herd::testing::model::{self, Contacts, Journeys};
 use herd::testing::random::Random;
 use herd::testing::rule::Stored;
-use herd::testing::suite::{Export, Lent};
+use herd::testing::suite::{draws, Export, Lent};
 use herd::testing::words::{self, Cells, Contact, Interval, Opening};
-use herd::{Added, Read};
+use herd::{Added, Joined, Read};
 use std::collections::BTreeSet;
 use std::fmt::Debug;
 
@@ -358,6 +358,31 @@ fn reading_is_opening_and_adding_all() {
         let (answer, read) = calls::read_log(&words::log(opening, contacts), &before);
         assert_eq!(answer, Read::Contacts(new), "{opening:?}");
         assert_eq!(read, table, "{opening:?}");
+    }
+}
+
+#[test]
+fn joining_is_adding_what_the_second_holds() {
+    let mut random = Random::new(207);
+    for round in 0..1_500 {
+        let opening = draws::opening(&mut random);
+        let first = words::table(opening, &draws::cells(&mut random, opening));
+        let cells = draws::cells(&mut random, opening);
+        let second = words::table(opening, &cells);
+        let mut held = cases::legal_contacts(opening);
+        held.retain(|c| cells[opening.pair(c.from, c.to)].contains(&c.interval(opening.carry)));
+        if round % 2 == 0 {
+            held.reverse();
+        }
+        let (mut table, mut new) = (first.clone(), 0);
+        for contact in &held {
+            let (added, after) = calls::add(&table, contact.from, contact.to, contact.tick);
+            new += u32::from(matches!(added, Added::New(_)));
+            table = after;
+        }
+        let (answer, joined) = calls::join(&first, &second);
+        assert_eq!(answer, Joined::New(new), "{opening:?} {held:?}");
+        assert_eq!(joined, table, "{opening:?} {held:?}");
     }
 }
 

@@ -715,7 +715,7 @@ fn random_damage() {
     for _ in 0..60_000 {
         let opening = cases::opening(&mut random);
         let contacts = cases::log_contacts(&mut random, opening, 12);
-        let log = cases::damaged_log(&mut random, &words::log(opening, contacts));
+        let log = cases::damaged(&mut random, &words::log(opening, contacts));
         let mut table = held_before(&mut random, opening);
         if random.once_in(10) {
             table.pop();

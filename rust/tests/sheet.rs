@@ -219,7 +219,7 @@ fn made_logs_with_wrong_words() {
     for _ in 0..500 {
         let opening = opening(&mut random);
         let good = log(&mut random, opening);
-        let words = cases::damaged_log(&mut random, &good);
+        let words = cases::damaged(&mut random, &good);
         let case = format!("{words:08X?}");
         compare(&sheet::bytes(&words), &case, &mut met);
     }

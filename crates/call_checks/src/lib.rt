@@ -6,9 +6,11 @@ ghost use Rattle.rules.specs.Adding.{ensurePair, addRefusal};
 ghost use Rattle.rules.specs.Windows.{ensureWindow};
 ghost use Rattle.rules.specs.Questions.{reachRefusal, momentRefusal, connectedRefusal, reachedRefusal};
 ghost use Rattle.rules.specs.Chains.{chainRefusal};
+ghost use Rattle.rules.specs.Joining.{joinRefusal};
 ghost use Rattle.checks.specs.Verdicts.{verdictOf};
 use checks::Verdict;
 use checks::groups;
+use rules::Refusal;
 
 // All checks of an add: 5, 6, then 7, 8, then 9.
 pub fn judge_add(table: &[u32], u: u32, v: u32, t: u32) -> Verdict
@@ -18,6 +20,17 @@ pub fn judge_add(table: &[u32], u: u32, v: u32, t: u32) -> Verdict
     let pair = groups::judge_pair(table, u, v);
     let tick = groups::judge_tick(table, t);
     groups::and_then(whole, groups::and_then(pair, tick))
+}
+
+// All checks of a join: 5, 6 of the first table, then 5, 6 of the second, then 17.
+pub fn judge_join(first: &[u32], second: &[u32]) -> Verdict
+    ensures { λ r. ⌜ r ≡ verdictOf (joinRefusal (now (first .entry)) (now (second .entry))) ⌝ }
+{
+    let whole = checks::judge_table(first);
+    let other = checks::judge_table(second);
+    let same = groups::first_word(first) == groups::first_word(second);
+    let opening = groups::ensure(same, Refusal::DifferentOpenings);
+    groups::and_then(whole, groups::and_then(other, opening))
 }
 
 // The checks of a question about a pair and a window behind 5 and 6: 7, 8, then 9.

@@ -19,7 +19,7 @@ pub enum Verdict {
     Refused(Refusal),
 }
 
-// Document 01's number of a refusal.
+// The number that documents 01 and 02 give a refusal.
 pub fn number_of(refusal: Refusal) -> u32
     ensures { λ r. ⌜ r ≡ numberOf refusal ⌝ }
 {
@@ -40,6 +40,7 @@ pub fn number_of(refusal: Refusal) -> u32
         Refusal::WrongEnd => 14,
         Refusal::LogBufferTooShort => 15,
         Refusal::TallyFull => 16,
+        Refusal::DifferentOpenings => 17,
     }
 }
 

@@ -1,4 +1,4 @@
-// The calls of the engine. Each checks in document 01's order and refuses with nothing written, and its reply and every
+// The calls of the engine. Each checks in the documents' order and refuses with nothing written, and its reply and every
 // lent word afterwards are those of its rule, for every input.
 ghost use mathlib.Core.Path.{_≡_};
 ghost use Rattle.journeys.specs.Journey.{contact};
@@ -6,8 +6,10 @@ ghost use Rattle.rules.specs.Opening.{openAnswer, openLeaves};
 ghost use Rattle.rules.specs.Adding.{addAnswer, addLeaves};
 ghost use Rattle.rules.specs.Logs.{writeAnswer, writeLeaves};
 ghost use Rattle.rules.specs.Reading.{readAnswer, readLeaves};
+ghost use Rattle.rules.specs.Joining.{joinAnswer, joinLeaves};
 use checks::Verdict;
 use rules::AddAnswer;
+use rules::JoinAnswer;
 use rules::OpenAnswer;
 use rules::ReadAnswer;
 use rules::Refusal;
@@ -48,6 +50,22 @@ pub fn add_contact(table: &mut [u32], u: u32, v: u32, t: u32) -> AddAnswer
                 return AddAnswer::Known(change.cells);
             }
             AddAnswer::New(change.cells)
+        }
+    }
+}
+
+// Joins the second table into the first: adds the contacts that the second holds, and answers how many were new to the
+// first. The second is only read. Refuses with 5, 6 for the first table, then for the second, and with 17.
+pub fn join(first: &mut [u32], second: &[u32]) -> JoinAnswer
+    ensures { λ r. ⌜ r ≡ joinAnswer (now (first .entry)) (now (second .entry)) ⌝ }
+    ensures { λ _. ⌜ now (first .exit) ≡ joinLeaves (now (first .entry)) (now (second .entry)) ⌝ }
+{
+    let verdict = call_checks::judge_join(first, second);
+    match verdict {
+        Verdict::Refused(r) => JoinAnswer::Refused(r),
+        Verdict::Passed => {
+            let new = joining::join_held(first, second);
+            JoinAnswer::Joined(new)
         }
     }
 }

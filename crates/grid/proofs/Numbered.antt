@@ -11,7 +11,7 @@ use Rattle.grid.specs.Parts.{part}
 use Rattle.grid.specs.Cells.{cellIn, Grid}
 
 -- The first a of a + b lists, then the others.
-flat-add : {A : Type 0} (f : ℕ → List A) (a b : ℕ) → flat f (a + b) ≡ flat f a ++ flat (λ j. f (a + j)) b
+pub flat-add : {A : Type 0} (f : ℕ → List A) (a b : ℕ) → flat f (a + b) ≡ flat f a ++ flat (λ j. f (a + j)) b
 unfolding flat
 flat-add f a zero = ap (flat f) (add-zero a) ∙ sym (append-nil (flat f a))
 flat-add f a (suc b) =

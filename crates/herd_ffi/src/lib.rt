@@ -2,11 +2,12 @@
 // 32 bits say which answer, the lower 32 its number: 0 is a refusal with its number; 1 and 2 are the answers of the call.
 ghost use mathlib.Core.Path.{_≡_};
 ghost use Rattle.journeys.specs.Journey.{contact};
-ghost use Rattle.rules.specs.Answers.{openReply, addReply, writeReply, readReply, askReply, intervalReply, setReply, chainReply};
+ghost use Rattle.rules.specs.Answers.{openReply, addReply, writeReply, readReply, joinReply, askReply, intervalReply, setReply, chainReply};
 ghost use Rattle.rules.specs.Opening.{openAnswer, openLeaves};
 ghost use Rattle.rules.specs.Adding.{addAnswer, addLeaves};
 ghost use Rattle.rules.specs.Logs.{writeAnswer, writeLeaves};
 ghost use Rattle.rules.specs.Reading.{readAnswer, readLeaves};
+ghost use Rattle.rules.specs.Joining.{joinAnswer, joinLeaves};
 ghost use Rattle.rules.specs.Questions.{reachAnswer, earliestAnswer, latestAnswer, connectedAnswer, reachedAnswer, reachedCount, reachedLeaves};
 ghost use Rattle.rules.specs.Chains.{chainAnswer, chainLeaves};
 ghost use Rattle.rules.specs.Claims.{claimedAnswer};
@@ -27,6 +28,15 @@ pub extern "C" fn herd_add(table: &mut [u32], u: u32, v: u32, t: u32) -> u64
     ensures { λ _. ⌜ now (table .exit) ≡ addLeaves (now (table .entry)) (contact u v t) ⌝ }
 {
     replies::of_add(engine::add_contact(table, u, v, t))
+}
+
+// Joins the second table into the first: 1 joined, with the number of contacts new to the first, 0 refused.
+#[no_mangle]
+pub extern "C" fn herd_join(first: &mut [u32], second: &[u32]) -> u64
+    ensures { λ r. ⌜ r ≡ joinReply (joinAnswer (now (first .entry)) (now (second .entry))) ⌝ }
+    ensures { λ _. ⌜ now (first .exit) ≡ joinLeaves (now (first .entry)) (now (second .entry)) ⌝ }
+{
+    replies::of_join(engine::join(first, second))
 }
 
 // Reads a log into a table: 1 read, with the number of different contacts, 0 refused.

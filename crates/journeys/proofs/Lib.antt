@@ -6,4 +6,5 @@ pub mod Reach
 pub mod Closed
 pub mod Rows
 pub mod Theorems
+pub mod AnyOrder
 pub mod Examples

@@ -1,18 +1,17 @@
 -- The proofs of the theorems of specs/Theorems.antt.
-use mathlib.Core.Path.{_≡_, refl, sym, ap, subst, _∙_}
-use mathlib.Core.Logic.{_↔_, _⊎_, inl, inr, ⊎-elim, _≢_}
-use mathlib.Core.List.{List, [], _∷_, List·Memᴰ, List·Memᴰ·head, List·Memᴰ·tail, List·Memᴰ·cases-cons, List·Memᴰ·not-nil}
-use Prim.Native.Nat.{ℕ, _+_, _≤_, _<_}
+use mathlib.Core.Path.{_≡_, refl, sym, subst, _∙_}
+use mathlib.Core.Logic.{_↔_, _⊎_, inr, ⊎-elim, _≢_}
+use mathlib.Core.List.{List, [], List·Memᴰ}
+use Prim.Native.Nat.{ℕ, _+_, _≤_}
 use native.Mathlib.Omega.{arith}
 use native.Mathlib.Decide.{ℕ-discrete}
-use lib.ListN.{length}
-use Rattle.journeys.specs.Journey.{Contact, contact, Contacts, In, With, Same, Apart, Interval, interval, Inside, JourneyTo, single, onward, Journey, Minimal}
-use Rattle.journeys.specs.Cell.{Cell, Rising, WellFormedCell}
-use Rattle.journeys.specs.Adding.{Cells, add, addAll, cellsOver, ListsMinimal, CellsOf, WellFormed}
+use Rattle.journeys.specs.Journey.{Contact, contact, Contacts, In, With, Same, Apart, Interval, interval, Inside, JourneyTo, single, onward, Minimal}
+use Rattle.journeys.specs.Cell.{Cell}
+use Rattle.journeys.specs.Adding.{Cells, add, addAll, cellsOver, ListsMinimal, CellsOf}
 use Rattle.journeys.specs.Theorems.{Closure, ContactsStand, EqualCells, Unchanged, FitsStored, RowsSuffice, SameMembers}
-use Rattle.journeys.proofs.Cover.{Covers, covers-find, covers-member, same-cover, members-cover}
-use Rattle.journeys.proofs.Reach.{Reach, stay, step, journey-carries, reach-within, within-reach}
-use Rattle.journeys.proofs.Closed.{Closed, closed-lists, lists-closed, closed-map, closed-unique, add-closed, add-diagonal}
+use Rattle.journeys.proofs.Cover.{covers-find, same-cover, members-cover}
+use Rattle.journeys.proofs.Reach.{empty, empty-forward, journey-carries, within-reach}
+use Rattle.journeys.proofs.Closed.{Closed, closed-lists, lists-closed, closed-map, closed-unique, add-closed, add-diagonal, Joined, addAll-closed, addAll-diagonal, rising-closed}
 use Rattle.journeys.proofs.Rows.{rows-suffice, add-wellFormed}
 
 pub cells-closed : {S : Contacts} {δ : ℕ} {T : Cells} → CellsOf S δ T → (x y : ℕ) → x ≢ y → Closed S δ x y (T x y)
@@ -28,37 +27,15 @@ cells-map e k = closed-cells (λ x y n. closed-map e (cells-closed k x y n)) (k 
 -- ---- 1
 
 one-more : (δ : ℕ) (S : Contacts) (T : Cells) (k : Contact) → CellsOf S δ T → CellsOf (With S k) δ (add δ T k)
-one-more δ S T k c = closed-cells (λ x y n. add-closed T k x y (cells-closed c) n) (λ x. add-diagonal δ T k x ∙ c .diagonal x)
-
--- The contacts of S and those of l.
-abbrev pub Joined : Contacts → List Contact → Contacts
-Joined S l k = S k ⊎ In l k
-
-joined-cons : (S : Contacts) (k : Contact) (l : List Contact) → Same (Joined (With S k) l) (Joined S (k ∷ l))
-joined-cons S k l c = (to, of)
-  where
-    to : Joined (With S k) l c → Joined S (k ∷ l) c
-    to (inl (inl s)) = inl s
-    to (inl (inr e)) = inr (List·Memᴰ·head e)
-    to (inr m) = inr (List·Memᴰ·tail m)
-
-    of : Joined S (k ∷ l) c → Joined (With S k) l c
-    of (inl s) = inl (inl s)
-    of (inr m) = ⊎-elim (λ e. inl (inr e)) inr (List·Memᴰ·cases-cons m)
+one-more δ S T k c = closed-cells (λ x y n. add-closed empty-forward T k x y (cells-closed c) n) (λ x. add-diagonal δ T k x ∙ c .diagonal x)
 
 -- A list of contacts added to the cells of a set gives the cells of both together.
 pub addAll-cells : (δ : ℕ) (S : Contacts) (T : Cells) (l : List Contact) → CellsOf S δ T → CellsOf (Joined S l) δ (addAll δ T l)
-unfolding addAll
-addAll-cells δ S T [] k = cells-map (λ c. (inl, ⊎-elim (λ s. s) (λ m. absurd (List·Memᴰ·not-nil m)))) k
-addAll-cells δ S T (c ∷ l) k = cells-map (joined-cons S c l) (addAll-cells δ (With S c) (add δ T c) l (one-more δ S T c k))
+addAll-cells δ S T l k = closed-cells (addAll-closed empty-forward l S T (cells-closed k)) (λ x. addAll-diagonal δ T l x ∙ k .diagonal x)
 
 -- Empty cells are those of no contacts.
 pub empty-cells : (δ : ℕ) → CellsOf (λ k. ⊥) δ (λ x y. [])
-empty-cells δ = closed-cells (λ x y n. record { rising = tt; covers = λ i. (λ v. elim v [ ], none n) }) (λ x. refl)
-  where
-    none : {x y : ℕ} {i : Interval} → x ≢ y → Reach (λ k. ⊥) δ y (i .arrival) x (i .departure) → Covers i []
-    none n (stay e h) = absurd (n e)
-    none n (step z s m h r) = absurd m
+empty-cells δ = closed-cells (rising-closed δ empty (λ x y. tt)) (λ x. refl)
 
 any-list : (δ : ℕ) (l : List Contact) → CellsOf (In l) δ (cellsOver δ l)
 unfolding cellsOver

@@ -2,7 +2,7 @@
 use mathlib.Core.Path.{_≡_}
 use mathlib.Core.Logic.{_↔_, _⊎_, _≢_}
 use mathlib.Core.List.{List, List·Memᴰ}
-use Prim.Native.Nat.{ℕ, _+_, _≤_, _<_}
+use Prim.Native.Nat.{ℕ, _+_, _≤_}
 
 -- A contact (u, v, t): what it carries departs from u at t and is with v from t + δ on, δ being the carry time.
 pub record Contact : Type 0 where
@@ -24,6 +24,10 @@ In l k = List·Memᴰ k l
 -- The set with one contact more.
 abbrev pub With : Contacts → Contact → Contacts
 With S k c = S c ⊎ (c ≡ k)
+
+-- The contacts of both sets.
+abbrev pub Union : Contacts → Contacts → Contacts
+Union S R k = S k ⊎ R k
 
 -- The two sets have the same contacts.
 abbrev pub Same : Contacts → Contacts → Type 0

@@ -1,12 +1,12 @@
 -- The theorems on which the engine stands, each one declaration. Their proofs are in proofs/.
 use mathlib.Core.Path.{_≡_}
-use mathlib.Core.Logic.{_↔_, _≢_}
+use mathlib.Core.Logic.{_↔_, _⊎_, _≢_}
 use mathlib.Core.List.{List, List·Memᴰ}
 use Prim.Native.Nat.{ℕ, _+_, _≤_}
 use lib.ListN.{length}
 use Rattle.journeys.specs.Journey.{Contact, contact, Contacts, In, With, Same, Apart, Interval, interval, Inside, Journey, Minimal}
 use Rattle.journeys.specs.Cell.{Cell, Rising, WellFormedCell}
-use Rattle.journeys.specs.Adding.{Cells, add, cellsOver, CellsOf, WellFormed}
+use Rattle.journeys.specs.Adding.{Cells, add, addAll, cellsOver, CellsOf, WellFormed}
 
 -- 1. The closure theorem.
 pub record Closure : Type 1 where
@@ -48,3 +48,16 @@ pub record RowsSuffice : Type 0 where
 -- 7. Two rising cells with the same members are the same list.
 abbrev pub SameMembers : Type 0
 SameMembers = (c d : Cell) → Rising c → Rising d → ((i : Interval) → List·Memᴰ i c ↔ List·Memᴰ i d) → c ≡ d
+
+-- 8. On any well-formed cells, even of no closure, contacts may be added in any order, and more than once.
+pub record AnyOrder : Type 0 where
+  -- Two contacts added in either order leave the same cells.
+  pub either-order : (τ δ : ℕ) (T : Cells) (k c : Contact) → WellFormed τ δ T → (x y : ℕ) → add δ (add δ T k) c x y ≡ add δ (add δ T c) k x y
+  -- A contact added twice leaves what it leaves when added once.
+  pub twice : (τ δ : ℕ) (T : Cells) (k : Contact) → WellFormed τ δ T → (x y : ℕ) → add δ (add δ T k) k x y ≡ add δ T k x y
+  -- Two lists of the same contacts leave the same cells.
+  pub same-contacts : (τ δ : ℕ) (T : Cells) (l m : List Contact) → WellFormed τ δ T → Same (In l) (In m) → (x y : ℕ) → addAll δ T l x y ≡ addAll δ T m x y
+  -- Whether a contact is new does not depend on what else was added before it: after a list of contacts at ticks of 1 to τ, [t, t+δ] stands in
+  -- cell (u, v) exactly when it stood there before them or (u, v, t) is among them.
+  pub stands-after : (τ δ : ℕ) (T : Cells) (l : List Contact) → 1 ≤ δ → WellFormed τ δ T → ((k : Contact) → In l k → (1 ≤ k .tick) × (k .tick ≤ τ))
+      → (u v t : ℕ) → u ≢ v → List·Memᴰ (interval t (t + δ)) (addAll δ T l u v) ↔ (List·Memᴰ (interval t (t + δ)) (T u v) ⊎ In l (contact u v t))

@@ -2,13 +2,14 @@
 // lower 32. The words of a set are written where the caller lends room for them.
 ghost use mathlib.Core.Path.{_≡_};
 ghost use Prim.Native.Nat.{_<_, _^_};
-ghost use Rattle.rules.specs.Answers.{reply, numberOf, openReply, addReply, writeReply, readReply, askReply, intervalReply, setReply, chainReply, listReply, recordReply};
+ghost use Rattle.rules.specs.Answers.{reply, numberOf, openReply, addReply, writeReply, readReply, joinReply, askReply, intervalReply, setReply, chainReply, listReply, recordReply};
 ghost use Rattle.rules.specs.Questions.{setOver};
 ghost use Rattle.replies.specs.Sets.{setLeaves};
 use rules::AddAnswer;
 use rules::AskAnswer;
 use rules::ChainAnswer;
 use rules::IntervalAnswer;
+use rules::JoinAnswer;
 use rules::ListAnswer;
 use rules::OpenAnswer;
 use rules::ReachedAnswer;
@@ -70,6 +71,16 @@ pub fn of_write(answer: WriteAnswer) -> u64
     match answer {
         WriteAnswer::Written(words) => reply_of(1, words),
         WriteAnswer::Refused(r) => refused(r),
+    }
+}
+
+// Of joining: 1 joined, with the number of contacts new to the first table.
+pub fn of_join(answer: JoinAnswer) -> u64
+    ensures { λ r. ⌜ r ≡ joinReply answer ⌝ }
+{
+    match answer {
+        JoinAnswer::Joined(new) => reply_of(1, new),
+        JoinAnswer::Refused(r) => refused(r),
     }
 }
 

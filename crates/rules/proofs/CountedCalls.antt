@@ -3,12 +3,12 @@ use mathlib.Core.Path.{_≡_, refl, sym, ap, _∙_, subst}
 use mathlib.Core.Logic.{_↔_, _⊎_, inl, inr, ⊎-elim}
 use mathlib.Core.Bool.{Bool, true, false, cond}
 use mathlib.Core.Option.{Option, none, some}
-use mathlib.Core.List.{List, [], _∷_, _++_, List·Memᴰ, List·Memᴰ·head, List·Memᴰ·tail, List·Memᴰ·not-nil, List·Memᴰ·cases-cons, Memᴰ·cast}
+use mathlib.Core.List.{List, [], _∷_, _++_}
 use Prim.Native.Nat.{ℕ, _+_, _≤_, _<_}
 use native.Mathlib.Omega.{arith}
 use lib.ListN.{length}
 use Rattle.journeys.specs.Journey.{Contact, Contacts, With}
-use Rattle.journeys.proofs.Tests.{never, Outcome, holds, fails}
+use Rattle.journeys.proofs.Tests.{never}
 use Rattle.rules.specs.declared.Refusal.{Refusal}
 use Rattle.rules.specs.declared.Refusal.the-variants.{TallyFull}
 use Rattle.rules.specs.declared.AddAnswer.{AddAnswer}
@@ -17,17 +17,17 @@ use Rattle.rules.specs.declared.Tally.{Tally}
 use Rattle.rules.specs.Adding.{Legal, addRefusal, addAnswer, addLeaves}
 use Rattle.rules.specs.Logs.{heldContacts}
 use Rattle.rules.specs.Fresh.{Fresh}
-use Rattle.rules.specs.CallLists.{Accepted}
+use Rattle.rules.specs.CallLists.{newOne, Accepted}
 use Rattle.rules.specs.Counting.{fullTally, tallySum, hasRoom, raised, countedAnswer, countedLeaves}
 use Rattle.rules.specs.CountedCalls.{TallyAndTable, countedCall, runCounted, counted, AcceptedCall, zeroTally, CountedCalls, CountedRule}
 use Rattle.rules.proofs.Judged.{none-some}
 use Rattle.rules.proofs.Counted.{counted-cases}
-use Rattle.rules.proofs.Fresh.{fresh-accepts, add-fresh, fresh-map}
+use Rattle.rules.proofs.Fresh.{fresh-passes, fresh-accepts, add-fresh, fresh-map}
 use Rattle.rules.proofs.Distinct.{once-short}
 use Rattle.rules.proofs.Held.{held-sorted, held-once, fresh-held}
-use Rattle.rules.proofs.Reading.{comesIn-outcome}
-use Rattle.rules.proofs.Runs.{refused-leaves}
-use Rattle.rules.proofs.Demand3.{fresh-accepted, fresh-more}
+use Rattle.rules.proofs.AnyOrder.{add-count}
+use Rattle.rules.proofs.Laid.{refused-leaves}
+use Rattle.rules.proofs.Demand3.{fresh-accepted}
 
 -- ---- one call
 
@@ -47,6 +47,12 @@ raised-sum (New c) t = omega arith
 raised-sum (Known c) t = omega arith
 raised-sum (AddRefused r) t = omega arith
 
+-- It raises new by 1 where it is answered with new.
+raised-new : (a : AddAnswer) (t : Tally) → raised a t .new ≡ newOne a + t .new
+raised-new (New c) t = omega arith
+raised-new (Known c) t = omega arith
+raised-new (AddRefused r) t = omega arith
+
 -- ---- the sum of a run
 
 -- The sum rises by the number of calls counted.
@@ -65,27 +71,6 @@ run-all (k ∷ A) s h =
     call-cases s k (λ b r. cond b (k ∷ counted r A) (counted r A) ≡ k ∷ A) (λ g. absurd (omega arith))
     (λ g. ap (λ (l : List Contact). k ∷ l) (run-all A (raisedCall s k) (omega (arith, raised-sum (addAnswer (s .table) k) (s .tally)))))
 
--- ---- how many contacts are held
-
-module _ {n τ δ : ℕ} {S : Contacts} {T : List ℕ} (f : Fresh n τ δ S T) (k : Contact) (l : Legal n τ k) where
-  -- A contact of the table stays.
-  held-stays : (c : Contact) → List·Memᴰ c (heldContacts T) → List·Memᴰ c (heldContacts (addLeaves T k))
-  held-stays c m = fresh-held (add-fresh f k l) c .1 (inl (fresh-held f c .0 m))
-
-  -- A contact held already leaves their number.
-  held-again : List·Memᴰ k (heldContacts T) → length (heldContacts (addLeaves T k)) ≡ length (heldContacts T)
-  held-again m =
-      let a = once-short (heldContacts (addLeaves T k)) (heldContacts T) (held-once (addLeaves T k)) (λ c h. ⊎-elim (fresh-held f c .1) (λ e. Memᴰ·cast e m) (fresh-held (add-fresh f k l) c .0 h)) in
-      let b = once-short (heldContacts T) (heldContacts (addLeaves T k)) (held-once T) held-stays in
-      omega arith
-
-  -- A contact not held yet raises it by 1.
-  held-more : (¬ List·Memᴰ k (heldContacts T)) → length (heldContacts (addLeaves T k)) ≡ length (heldContacts T) + 1
-  held-more d =
-      let a = once-short (heldContacts (addLeaves T k)) (k ∷ heldContacts T) (held-once (addLeaves T k)) (λ c h. ⊎-elim (λ s. List·Memᴰ·tail (fresh-held f c .1 s)) List·Memᴰ·head (fresh-held (add-fresh f k l) c .0 h)) in
-      let b = once-short (k ∷ heldContacts T) (heldContacts (addLeaves T k)) (d, held-once T) (λ c h. ⊎-elim (λ e. fresh-held (add-fresh f k l) c .1 (inr e)) (held-stays c) (List·Memᴰ·cases-cons h)) in
-      omega arith
-
 -- ---- the invariant of a run
 
 -- The table is fresh over S, and new is the number of contacts that it holds.
@@ -94,27 +79,17 @@ record Standing (n τ δ : ℕ) (S : Contacts) (s : TallyAndTable) : Type 0 wher
   pub number : s .tally .new ≡ length (heldContacts (s .table))
 
 module _ {n τ δ : ℕ} {S : Contacts} {s : TallyAndTable} (g : Standing n τ δ S s) (k : Contact) where
+  -- Whatever a counted call is answered, new stays the number of contacts held.
+  still-number : raised (addAnswer (s .table) k) (s .tally) .new ≡ length (heldContacts (addLeaves (s .table) k))
+  still-number = omega (arith, raised-new (addAnswer (s .table) k) (s .tally), g .number, add-count (s .table) (fresh-passes (g .fresh)) k)
+
   -- An accepted call that is counted joins its contact to the set.
   standing-legal : Legal n τ k → Standing n τ δ (With S k) (raisedCall s k)
-  standing-legal l = record { fresh = add-fresh (g .fresh) k l; number = go (comesIn-outcome k (heldContacts (s .table))) }
-    where
-      go : {b : Bool} → Outcome (List·Memᴰ k (heldContacts (s .table))) (¬ List·Memᴰ k (heldContacts (s .table))) b
-          → raised (addAnswer (s .table) k) (s .tally) .new ≡ length (heldContacts (addLeaves (s .table) k))
-      go (holds m) =
-          ap (λ (a : AddAnswer). raised a (s .tally) .new) (fresh-more (g .fresh) k l .known .1 (fresh-held (g .fresh) k .0 m))
-          ∙ g .number
-          ∙ sym (held-again (g .fresh) k l m)
-      go (fails d) =
-          ap (λ (a : AddAnswer). raised a (s .tally) .new) (fresh-more (g .fresh) k l .new .1 (λ h. d (fresh-held (g .fresh) k .1 h)))
-          ∙ ap (λ (m : ℕ). m + 1) (g .number)
-          ∙ sym (held-more (g .fresh) k l d)
+  standing-legal l = record { fresh = add-fresh (g .fresh) k l; number = still-number }
 
   -- A refused call that is counted leaves the set.
   standing-refused : (r : Refusal) → addRefusal (s .table) k ≡ some r → Standing n τ δ S (raisedCall s k)
-  unfolding addAnswer
-  standing-refused r e =
-      let q = refused-leaves (s .table) k r e in
-      record { fresh = subst (Fresh n τ δ S) (sym q) (g .fresh); number = rw (q, e) (g .number) }
+  standing-refused r e = record { fresh = subst (Fresh n τ δ S) (sym (refused-leaves (s .table) k r e)) (g .fresh); number = still-number }
 
 -- ---- the calls accepted
 

@@ -1,5 +1,5 @@
 -- Demand 1 holds of the rules.
-use mathlib.Core.Path.{_≡_, refl, sym, ap, _∙_, subst}
+use mathlib.Core.Path.{_≡_, refl, sym, ap, _∙_}
 use mathlib.Core.Logic.{_↔_, _≢_}
 use mathlib.Core.Bool.{Bool, true, false, cond, not, _&&_}
 use mathlib.Core.Option.{Option, none, some}
@@ -11,10 +11,8 @@ use lib.Dec.{leb, ltb, eqb}
 use borrow.Author.Tests.{leb-true}
 use Rattle.journeys.specs.Journey.{Contact, contact, interval}
 use Rattle.journeys.specs.Cell.{latestDeparture, earliestArrival}
-use Rattle.journeys.specs.Adding.{Cells, add}
 use Rattle.journeys.proofs.Tests.{never}
 use Rattle.rules.specs.declared.Refusal.{Refusal}
-use Rattle.rules.specs.declared.OpenAnswer.{OpenAnswer}
 use Rattle.rules.specs.declared.OpenAnswer.the-variants.{Opened, Refused as OpenRefused}
 use Rattle.rules.specs.declared.AddAnswer.{AddAnswer}
 use Rattle.rules.specs.declared.AddAnswer.the-variants.{New, Known, Refused as AddRefused}
@@ -25,10 +23,10 @@ use Rattle.rules.specs.declared.ListAnswer.the-variants.{Refused as List
 use Rattle.rules.specs.declared.WriteAnswer.the-variants.{Written, Refused as WriteRefused}
 use Rattle.rules.specs.declared.ReadAnswer.the-variants.{Read, Refused as ReadRefused}
 use Rattle.rules.specs.declared.SetAnswer.the-variants.{Refused as SetRefused}
-use Rattle.rules.specs.declared.ChainAnswer.the-variants.{Chain, NoJourney, Refused as ChainRefused}
+use Rattle.rules.specs.declared.ChainAnswer.the-variants.{Refused as ChainRefused}
 use Rattle.words.specs.Words.{contactWord}
 use Rattle.rules.specs.Answers.{numberOf, ensure, unless, openAnswerOf, addAnswerOf, writeAnswerOf, readAnswerOf}
-use Rattle.rules.specs.Layout.{tableLength, tableWords, animals, ticks, carry, cellsOf}
+use Rattle.rules.specs.Layout.{tableWords, animals, ticks, carry, cellsOf}
 use Rattle.rules.specs.Checks.{isOpen, wellFormed, ValidTable, WellFormedBelow}
 use Rattle.rules.specs.Opening.{openRefusal, openAnswer, openLeaves}
 use Rattle.rules.specs.Adding.{Legal, addRefusal, addedCells, holds, cellsChanged, addAnswer, addLeaves}
@@ -48,6 +46,7 @@ use Rattle.rules.proofs.Sound.{table-sizes, passes-good, opens-length}
 use Rattle.rules.proofs.Judged.{ensure-iff, unless-cases, open-iff, add-iff, accepted-none}
 use Rattle.rules.proofs.Fresh.{add-good, empty-good, fresh-length, fresh-passes}
 use Rattle.rules.proofs.Runs.{run-fresh}
+use Rattle.rules.proofs.Joining.{join-kept, join-length, join-valid}
 use Rattle.rules.proofs.Reading.{Readable, read-iff, read-opens, log-length}
 use Rattle.rules.proofs.Counted.{counted-cases}
 
@@ -101,7 +100,7 @@ add-length T k =
     add-cases T k (λ o L. length L ≡ length T) (λ r p. refl)
     (λ e. table-length (animals T) (ticks T) (carry T) (table-sizes T) (addedCells T k) (added-good T k e) ∙ sym (opens-length T (add-iff T k .0 e .0 .opens)))
 
-add-valid : (T : List ℕ) (k : Contact) → ValidTable T → ValidTable (addLeaves T k)
+pub add-valid : (T : List ℕ) (k : Contact) → ValidTable T → ValidTable (addLeaves T k)
 add-valid T k p =
     add-cases T k (λ o L. ValidTable L) (λ r e. p) (λ e. table-passes (animals T) (ticks T) (carry T) (table-sizes T) (addedCells T k) (added-good T k e))
 
@@ -355,6 +354,7 @@ demand1 =
       add-refused = add-kept;
       write-refused = write-kept;
       read-refused = read-kept;
+      join-refused = join-kept;
       reached-refused = reached-kept;
       reached-empty = reached-empty;
       chain-refused = chain-kept;
@@ -367,6 +367,7 @@ demand1 =
       add-length = add-length;
       write-length = write-length;
       read-length = read-length;
+      join-length = join-length;
       counted-length = counted-length;
       list-length = list-length;
       reached-length = reached-length;
@@ -374,6 +375,7 @@ demand1 =
       open-valid = open-valid;
       read-valid = read-valid;
       add-valid = add-valid;
+      join-valid = join-valid;
       counted-valid = counted-valid;
       legal-accepted = legal-accepted;
       legal-counted = legal-counted;

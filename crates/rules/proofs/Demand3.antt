@@ -1,44 +1,40 @@
 -- Demand 3 holds of the engine of document 01.
 use mathlib.Core.Path.{_≡_, refl, sym, ap, ap₂, _∙_, subst}
-use mathlib.Core.Logic.{_↔_, _⊎_, inl, inr, ⊎-elim, _≢_}
+use mathlib.Core.Logic.{_↔_, inl, inr, _≢_}
 use mathlib.Core.Bool.{Bool, true, false, cond, not}
-use mathlib.Core.Option.{Option, none, some}
-use mathlib.Core.List.{List, [], _∷_, _++_, append-assoc, map, List·Memᴰ, List·Memᴰ·head}
+use mathlib.Core.Option.{none}
+use mathlib.Core.List.{List, [], _∷_, _++_, List·Memᴰ, List·Memᴰ·head}
 use Prim.Native.Nat.{ℕ, zero, suc, _+_, _≤_, _<_}
-use native.Mathlib.Decide.{ℕ-discrete}
 use native.Mathlib.Omega.{arith}
-use lib.ListN.{length, getD, drop, length-append}
+use lib.ListN.{length, drop, length-append}
 use lib.Dec.{leb}
 use borrow.Author.Tests.{le-leb}
-use Rattle.journeys.specs.Journey.{Contact, Contacts, With, Same, Interval, Minimal, interval}
-use Rattle.journeys.specs.Cell.{Cell}
+use Rattle.journeys.specs.Journey.{Contact, Contacts, With, Same}
 use Rattle.journeys.specs.Adding.{Cells, add}
 use Rattle.journeys.proofs.Tests.{never, untrue, Outcome, holds, fails}
 use Rattle.journeys.proofs.Closed.{add-same}
-use Rattle.journeys.proofs.Theorems.{contacts-stand, unchanged}
+use Rattle.journeys.proofs.Theorems.{unchanged}
 use Rattle.words.specs.Words.{openingWord}
-use Rattle.rules.specs.declared.Refusal.{Refusal}
 use Rattle.rules.specs.declared.Refusal.the-variants.{NotOpen, NotWellFormed, LogBufferTooShort}
-use Rattle.rules.specs.declared.AddAnswer.{AddAnswer}
-use Rattle.rules.specs.declared.AddAnswer.the-variants.{New, Known, Refused as AddRefused}
+use Rattle.rules.specs.declared.AddAnswer.the-variants.{New, Known}
 use Rattle.rules.specs.declared.WriteAnswer.the-variants.{Written}
 use Rattle.rules.specs.Folds.{flat, sumBelow, countBelow}
-use Rattle.rules.specs.Layout.{tableLength, cellWords, tableWords, cellAt, cellOf, animals, carry, cellsOf}
-use Rattle.rules.specs.Checks.{isOpen, wellFormed, ValidTable}
-use Rattle.rules.specs.Opening.{Sizes, openRefusal, openAnswer, openLeaves}
-use Rattle.rules.specs.Adding.{Legal, sameCell, cellsChanged, addRefusal, addedCells, addAnswer, addLeaves}
+use Rattle.rules.specs.Layout.{cellWords, cellAt, cellOf, cellsOf}
+use Rattle.rules.specs.Checks.{isOpen, wellFormed}
+use Rattle.rules.specs.Opening.{openRefusal}
+use Rattle.rules.specs.Adding.{Legal, sameCell, cellsChanged, addedCells, addAnswer, addLeaves}
 use Rattle.rules.specs.Adding as Adding
 use Rattle.rules.specs.Logs.{heldContacts, logWords, writeRefusal, writeAnswer, writeLeaves}
 use Rattle.rules.specs.Fresh.{Fresh}
-use Rattle.rules.specs.CallLists.{Engine, engine, run, tableAfter, LegalOf, Accepted}
+use Rattle.rules.specs.CallLists.{engine, tableAfter, LegalOf, Accepted}
 use Rattle.rules.specs.Orders.{Sorted, Pair, Lower}
 use Rattle.rules.specs.Demand3.{SameMinimal, Changed, OneMore, OneList, TwoLists, Demand3}
-use Rattle.rules.proofs.Folds.{flat-member, member-flat, sum-same, count-same}
+use Rattle.rules.proofs.Folds.{flat-member, member-flat}
 use Rattle.rules.proofs.Decode.{cell-again, table-cell}
-use Rattle.rules.proofs.Sound.{opens-first}
+use Rattle.rules.proofs.Laid.{laid-first}
 use Rattle.rules.proofs.Changes.{sameCell-outcome}
 use Rattle.rules.proofs.Judged.{ensure-iff, open-iff, open-none, accepted-none}
-use Rattle.rules.proofs.Fresh.{fresh-good, fresh-animals, fresh-ticks, fresh-carry, fresh-passes, fresh-cells, fresh-accepts, add-fresh, fresh-map, fresh-unique}
+use Rattle.rules.proofs.Fresh.{fresh-laid, fresh-good, fresh-animals, fresh-carry, fresh-passes, fresh-cells, fresh-accepts, add-fresh, fresh-map, fresh-unique}
 use Rattle.rules.proofs.Sorted.{sorted-flat, sorted-one, member-one}
 use Rattle.rules.proofs.Held.{held-sorted, fresh-holds, fresh-held}
 use Rattle.rules.proofs.Runs.{run-fresh}
@@ -248,9 +244,6 @@ module _ {n τ δ : ℕ} {S : Contacts} {T : List ℕ} (f : Fresh n τ δ S T) w
         ),
       )
 
-  fresh-first : getD T 0 0 ≡ openingWord n τ δ
-  fresh-first = sym (opens-first T (fresh-passes f .opens)) ∙ rw (fresh-animals f, fresh-ticks f, fresh-carry f) refl
-
   pub fresh-written : (B : List ℕ) → length (heldContacts T) + 2 ≤ length B → writeAnswer T B ≡ Written (length (heldContacts T) + 2)
   unfolding writeAnswer
   fresh-written B h = rw (write-accepts B h)
@@ -258,7 +251,7 @@ module _ {n τ δ : ℕ} {S : Contacts} {T : List ℕ} (f : Fresh n τ δ S T) w
   pub fresh-log : (B : List ℕ) → length (heldContacts T) + 2 ≤ length B
       → writeLeaves T B ≡ logWords (openingWord n τ δ) (heldContacts T) ++ drop (length (heldContacts T) + 2) B
   unfolding writeLeaves
-  fresh-log B h = rw (write-accepts B h, fresh-first)
+  fresh-log B h = rw (write-accepts B h, laid-first (fresh-laid f))
 
 -- ---- the demand
 

@@ -1,7 +1,7 @@
 -- A list in which no element comes twice is no longer than any list that has all its elements.
 use mathlib.Core.Path.{_≡_, refl, sym, ap, _∙_, subst}
 use mathlib.Core.Logic.{⊎-elim, _≢_}
-use mathlib.Core.List.{List, [], _∷_, List·Memᴰ, List·Memᴰ·head, List·Memᴰ·tail, List·Memᴰ·cases-cons}
+use mathlib.Core.List.{List, [], _∷_, _++_, List·Memᴰ, List·Memᴰ·head, List·Memᴰ·tail, List·Memᴰ·cases-cons, List·Memᴰ·append-cases}
 use Prim.Native.Nat.{ℕ, suc, _≤_, _<_}
 use native.Mathlib.Omega.{arith}
 use lib.ListN.{length}
@@ -37,6 +37,14 @@ once-short (a ∷ l) m u f =
     let h = f a (List·Memᴰ·head refl) in
     let r = once-short l (removed h) (u .1) (λ b k. removed-member h (λ e. u .0 (subst (λ c. List·Memᴰ c l) e k)) (f b (List·Memᴰ·tail k))) in
     omega (arith, removed-length h)
+
+-- Two such lists with no element in common are one, joined end to end.
+pub once-append : {A : Type 0} (l m : List A) → Once l → Once m → ((a : A) → List·Memᴰ a l → ¬ List·Memᴰ a m) → Once (l ++ m)
+once-append [] m u v f = v
+once-append (a ∷ l) m u v f = (
+  λ h. ⊎-elim (u .0) (f a (List·Memᴰ·head refl)) (List·Memᴰ·append-cases l h),
+  once-append l m (u .1) v (λ b h. f b (List·Memᴰ·tail h)),
+)
 
 -- Different numbers below n are at most n.
 pub distinct-few : (n : ℕ) (l : List ℕ) → Distinct l → ((a : ℕ) → List·Memᴰ a l → a < n) → length l ≤ n

@@ -1,30 +1,29 @@
 -- The contacts that a table holds: which they are, that they are listed in order, and how many they can be.
 use mathlib.Core.Path.{_≡_, refl, sym, ap, _∙_, subst}
-use mathlib.Core.Logic.{_↔_, _⊎_, inl, inr, ⊎-elim, _≢_}
+use mathlib.Core.Logic.{_↔_, inl, inr, _≢_}
 use mathlib.Core.Bool.{Bool, true, false, cond}
-use mathlib.Core.List.{List, [], _∷_, List·Memᴰ, List·Memᴰ·head, List·Memᴰ·tail, List·Memᴰ·not-nil}
-use Prim.Native.Nat.{ℕ, zero, suc, _+_, _-_, _*_, _≤_, _<_}
+use mathlib.Core.List.{List, [], _∷_, List·Memᴰ, List·Memᴰ·head, List·Memᴰ·not-nil}
+use Prim.Native.Nat.{ℕ, _+_, _-_, _*_, _≤_, _<_}
 use native.Mathlib.Nat.{mul-le-mul-left}
-use native.Mathlib.Decide.{ℕ-discrete}
 use native.Mathlib.Omega.{arith}
 use lib.ListN.{length}
 use Rattle.journeys.specs.Journey.{Contact, contact, Contacts, interval}
-use Rattle.journeys.specs.Cell.{Cell}
-use Rattle.journeys.proofs.Tests.{untrue, Outcome, holds, fails}
+use Rattle.journeys.specs.Adding.{Cells}
 use Rattle.journeys.proofs.Theorems.{contacts-stand}
 use Rattle.rules.specs.Limits.{maxContacts, maxChain}
 use Rattle.rules.specs.Folds.{flat}
 use Rattle.rules.specs.Layout.{animals, ticks, carry, cellsOf}
 use Rattle.rules.specs.Checks.{ValidTable}
-use Rattle.rules.specs.Adding.{stands}
+use Rattle.rules.specs.Adding.{Legal, stands}
 use Rattle.rules.specs.Adding as Adding
 use Rattle.rules.specs.Logs.{held, heldContacts}
 use Rattle.rules.specs.Fresh.{Fresh}
 use Rattle.rules.specs.Orders.{Sorted, Earlier}
-use Rattle.rules.proofs.Folds.{flat-few, flat-skip, flat-member, member-flat}
+use Rattle.rules.proofs.Folds.{passes-iff, flat-few, flat-skip, flat-member, member-flat}
 use Rattle.rules.proofs.Sound.{table-sizes, passes-good}
 use Rattle.rules.proofs.Changes.{stands-outcome}
-use Rattle.rules.proofs.Fresh.{fresh-carry, fresh-animals, fresh-ticks, fresh-cells}
+use Rattle.rules.proofs.Laid.{Laid, laid-animals, laid-ticks, laid-carry, laid-cells, valid-laid}
+use Rattle.rules.proofs.Fresh.{fresh-laid}
 use Rattle.rules.proofs.Distinct.{Once}
 use Rattle.rules.proofs.Sorted.{sorted-flat, sorted-one, member-one, sorted-once, earlier-irreflexive, earlier-transitive}
 
@@ -158,41 +157,62 @@ held-few T p = last (flat-few (rows T) (n * (n - 1)) τ (λ t h. flat-few (row T
         let c : τ * (n * (n - 1)) ≤ τ * 65280 = mul-le-mul-left τ b in
         omega (arith, z .τ-high)
 
+-- ---- on a table laid out from well-formed cells
+
+module _ {n τ δ : ℕ} {C : Cells} {T : List ℕ} (f : Laid n τ δ C T) where
+  -- It holds a contact of its animals exactly when its own interval stands in their cell.
+  pub laid-holds : (k : Contact) → k .from < n → k .to < n → (Adding.holds T k ≡ true) ↔ List·Memᴰ (interval (k .tick) (k .tick + δ)) (C (k .from) (k .to))
+  unfolding Adding.holds
+  laid-holds k h j = rw (laid-carry f, laid-cells f (k .from) (k .to) h j) (passes-iff (stands-outcome (interval (k .tick) (k .tick + δ)) (C (k .from) (k .to))))
+
+  -- No interval stands in a cell from an animal to itself.
+  own-apart : (k : Contact) → List·Memᴰ (interval (k .tick) (k .tick + δ)) (C (k .from) (k .to)) → k .from ≢ k .to
+  own-apart k m e = List·Memᴰ·not-nil (subst (λ c. List·Memᴰ (interval (k .tick) (k .tick + δ)) c) (subst (λ v. C (k .from) v ≡ []) e (f .formed .diagonal (k .from))) m)
+
+  -- Its listed contacts are the legal ones whose own intervals stand.
+  pub laid-held : (k : Contact) → List·Memᴰ k (heldContacts T) ↔ (Legal n τ k × List·Memᴰ (interval (k .tick) (k .tick + δ)) (C (k .from) (k .to)))
+  laid-held k = (to, of)
+    where
+      to : List·Memᴰ k (heldContacts T) → Legal n τ k × List·Memᴰ (interval (k .tick) (k .tick + δ)) (C (k .from) (k .to))
+      to m =
+          let l = held-iff T k .0 m in
+          let a : k .from < n = omega (arith, l .from-below, laid-animals f) in
+          let b : k .to < n = omega (arith, l .to-below, laid-animals f) in
+          let s = laid-holds k a b .0 (l .stands) in
+          (record { from-below = a; to-below = b; apart = own-apart k s; from-one = l .from-one; to-last = omega (arith, l .to-last, laid-ticks f) }, s)
+
+      of : Legal n τ k × List·Memᴰ (interval (k .tick) (k .tick + δ)) (C (k .from) (k .to)) → List·Memᴰ k (heldContacts T)
+      of (l, m) =
+          held-iff T k .1
+          (record {
+            from-below = omega (arith, l .from-below, laid-animals f);
+            to-below = omega (arith, l .to-below, laid-animals f);
+            from-one = l .from-one;
+            to-last = omega (arith, l .to-last, laid-ticks f);
+            stands = laid-holds k (l .from-below) (l .to-below) .1 m;
+          })
+
+-- The contacts listed of a table that passes 5 and 6 are legal for it.
+pub held-legal : (T : List ℕ) → ValidTable T → (k : Contact) → List·Memᴰ k (heldContacts T) → Legal (animals T) (ticks T) k
+held-legal T p k m = laid-held (valid-laid T p) k .0 m .0
+
 -- ---- on a fresh table
 
 module _ {n τ δ : ℕ} {S : Contacts} {T : List ℕ} (f : Fresh n τ δ S T) where
+  -- The own interval of a contact stands in the cells of a set exactly when the contact is in the set.
+  own-iff : (k : Contact) → List·Memᴰ (interval (k .tick) (k .tick + δ)) (f .cells (k .from) (k .to)) ↔ S k
+  own-iff k = (
+    λ m. contacts-stand δ S (f .cells) (f .sizes .δ-low) (f .minimal) (k .from) (k .to) (k .tick) (own-apart (fresh-laid f) k m) .0 m,
+    λ s. contacts-stand δ S (f .cells) (f .sizes .δ-low) (f .minimal) (k .from) (k .to) (k .tick) (f .legal k s .apart) .1 s,
+  )
+
   -- A fresh table holds a contact of its animals exactly when it is in its set.
   pub fresh-holds : (k : Contact) → k .from < n → k .to < n → (Adding.holds T k ≡ true) ↔ S k
-  unfolding Adding.holds
-  fresh-holds k h j = rw (fresh-carry f, fresh-cells f (k .from) (k .to) h j) (go (ℕ-discrete (k .from) (k .to)) (stands-outcome (interval (k .tick) (k .tick + δ)) (f .cells (k .from) (k .to))))
-    where
-      go : {b : Bool} → Dec (k .from ≡ k .to) → Outcome (List·Memᴰ (interval (k .tick) (k .tick + δ)) (f .cells (k .from) (k .to))) (¬ List·Memᴰ (interval (k .tick) (k .tick + δ)) (f .cells (k .from) (k .to))) b
-          → (b ≡ true) ↔ S k
-      go (yes e) (holds m) = absurd (List·Memᴰ·not-nil (subst (λ c. List·Memᴰ (interval (k .tick) (k .tick + δ)) c) (subst (λ v. f .cells (k .from) v ≡ []) e (f .minimal .diagonal (k .from))) m))
-      go (yes e) (fails m) = (λ q. untrue q, λ s. absurd (f .legal k s .apart e))
-      go (no d) (holds m) = (λ q. contacts-stand δ S (f .cells) (f .sizes .δ-low) (f .minimal) (k .from) (k .to) (k .tick) d .0 m, λ s. refl)
-      go (no d) (fails m) = (λ q. untrue q, λ s. absurd (m (contacts-stand δ S (f .cells) (f .sizes .δ-low) (f .minimal) (k .from) (k .to) (k .tick) d .1 s)))
+  fresh-holds k h j = let a = laid-holds (fresh-laid f) k h j in let b = own-iff k in (λ e. b .0 (a .0 e), λ s. a .1 (b .1 s))
 
   -- Its listed contacts are those of its set.
   pub fresh-held : (k : Contact) → List·Memᴰ k (heldContacts T) ↔ S k
-  fresh-held k = (to, of)
-    where
-      to : List·Memᴰ k (heldContacts T) → S k
-      to m =
-          let l = held-iff T k .0 m in
-          fresh-holds k (omega (arith, l .from-below, fresh-animals f)) (omega (arith, l .to-below, fresh-animals f)) .0 (l .stands)
-
-      of : S k → List·Memᴰ k (heldContacts T)
-      of s =
-          let l = f .legal k s in
-          held-iff T k .1
-          (record {
-            from-below = omega (arith, l .from-below, fresh-animals f);
-            to-below = omega (arith, l .to-below, fresh-animals f);
-            from-one = l .from-one;
-            to-last = omega (arith, l .to-last, fresh-ticks f);
-            stands = fresh-holds k (l .from-below) (l .to-below) .1 s;
-          })
+  fresh-held k = let a = laid-held (fresh-laid f) k in let b = own-iff k in (λ m. b .0 (a .0 m .1), λ s. a .1 (f .legal k s, b .1 s))
 
 -- A table holds a contact where its interval, of which a is the arrival, stands in its cell.
 pub holds-at : (T : List ℕ) (u v t a : ℕ) {r : Bool} → a ≡ t + carry T → r ≡ Adding.stands (interval t a) (cellsOf T u v) → r ≡ Adding.holds T (contact u v t)

@@ -5,6 +5,7 @@ pub mod Changes
 pub mod Judged
 pub mod CountedExamples
 pub mod Counted
+pub mod Laid
 pub mod Fresh
 pub mod Reading
 pub mod Demand1
@@ -15,7 +16,11 @@ pub mod EarliestLatest
 pub mod Sorted
 pub mod Held
 pub mod Runs
+pub mod AnyOrder
+pub mod Without
+pub mod Joining
 pub mod Demand3
+pub mod TableCalls
 pub mod LogsRead
 pub mod SheetRule
 pub mod Determined
@@ -32,5 +37,6 @@ pub mod Examples
 pub mod Claims
 pub mod Session
 pub mod LogExamples
+pub mod JoinExamples
 pub mod ListRule
 pub mod Promised

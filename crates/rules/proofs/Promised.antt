@@ -5,6 +5,9 @@ use Rattle.rules.proofs.Demand2.{demand2}
 use Rattle.rules.proofs.Demand3.{demand3}
 use Rattle.rules.proofs.LogsRead.{logs-read}
 use Rattle.rules.proofs.CountedCalls.{counted-rule}
+use Rattle.rules.proofs.AnyOrder.{any-order}
+use Rattle.rules.proofs.Joining.{join-rule}
+use Rattle.rules.proofs.TableCalls.{table-calls}
 use Rattle.rules.proofs.ListRule.{list-rule, list-examples}
 use Rattle.rules.proofs.EarliestLatest.{stored-answers}
 use Rattle.rules.proofs.Claims.{claims-judged}
@@ -12,6 +15,7 @@ use Rattle.rules.proofs.ChainShown.{named-chains}
 use Rattle.rules.proofs.SheetRule.{sheet-rule}
 use Rattle.rules.proofs.Examples.{marked-hold, worked-hold}
 use Rattle.rules.proofs.LogExamples.{logs-answered}
+use Rattle.rules.proofs.JoinExamples.{joins-worked}
 use Rattle.rules.proofs.Session.{session-printed}
 use Rattle.rules.proofs.Determined.{determined}
 use Rattle.rules.proofs.DeterminedAnswers.{determined-answers}
@@ -26,6 +30,9 @@ promised =
       demand3 = demand3;
       logs-read = logs-read;
       counted-rule = counted-rule;
+      any-order = any-order;
+      join-rule = join-rule;
+      table-calls = table-calls;
       list-rule = list-rule;
       stored-answers = stored-answers;
       claims-judged = claims-judged;
@@ -34,6 +41,7 @@ promised =
       marked-hold = marked-hold;
       worked-hold = worked-hold;
       logs-answered = logs-answered;
+      joins-worked = joins-worked;
       list-examples = list-examples;
       session-printed = session-printed;
       determined = determined;

@@ -3,7 +3,7 @@ use mathlib.Core.Path.{_≡_, refl, sym, ap₂, _∙_, subst}
 use mathlib.Core.Logic.{_↔_, _⊎_, inl, inr, ⊎-elim}
 use mathlib.Core.Bool.{Bool, true, false, cond}
 use mathlib.Core.List.{List, [], _∷_, _++_, List·Memᴰ, List·Memᴰ·head, List·Memᴰ·tail, List·Memᴰ·cases-cons, List·Memᴰ·not-nil}
-use Prim.Native.Nat.{ℕ, zero, suc, _≤_, _<_}
+use Prim.Native.Nat.{ℕ, zero, suc, _<_}
 use native.Mathlib.Omega.{arith}
 use Rattle.rules.specs.Folds.{flat}
 use Rattle.journeys.specs.Journey.{Contact}
@@ -44,21 +44,25 @@ member-one true a b (List·Memᴰ·head e) = (e, refl)
 
 -- ---- a strictly sorted list is known by its members
 
+-- The first of a sorted list stands before the others.
+pub sorted-after : {A : Type 0} (R : A → A → Type 0) → ((a b c : A) → R a b → R b c → R a c) → (a b : A) (l : List A) → Sorted R (a ∷ l) → List·Memᴰ b l → R a b
+sorted-after R t a b (c ∷ l) s (List·Memᴰ·head e) = subst (R a) (sym e) (s .0)
+sorted-after R t a b (c ∷ l) s (List·Memᴰ·tail m) = t a c b (s .0) (sorted-after R t c b l (s .1) m)
+
 module _ {A : Type 0} (R : A → A → Type 0) (irreflexive : (a : A) → ¬ R a a) (transitive : (a b c : A) → R a b → R b c → R a c) where
-  sorted-after : (a b : A) (l : List A) → Sorted R (a ∷ l) → List·Memᴰ b l → R a b
-  sorted-after a b (c ∷ l) s (List·Memᴰ·head e) = subst (R a) (sym e) (s .0)
-  sorted-after a b (c ∷ l) s (List·Memᴰ·tail m) = transitive a c b (s .0) (sorted-after c b l (s .1) m)
+  abbrev after : (a b : A) (l : List A) → Sorted R (a ∷ l) → List·Memᴰ b l → R a b
+  after = sorted-after R transitive
 
   -- No element comes twice in a strictly sorted list.
   pub sorted-once : (l : List A) → Sorted R l → Once l
   sorted-once [] s = tt
-  sorted-once (a ∷ l) s = (λ m. irreflexive a (sorted-after a a l s m), sorted-once l (s .1))
+  sorted-once (a ∷ l) s = (λ m. irreflexive a (after a a l s m), sorted-once l (s .1))
 
   tail-members : (a b : A) (l m : List A) → a ≡ b → Sorted R (a ∷ l) → ((x : A) → List·Memᴰ x (a ∷ l) → List·Memᴰ x (b ∷ m)) → (x : A) → List·Memᴰ x l → List·Memᴰ x m
   tail-members a b l m e s f x p = go (List·Memᴰ·cases-cons (f x (List·Memᴰ·tail p)))
     where
       go : (x ≡ b) ⊎ List·Memᴰ x m → List·Memᴰ x m
-      go (inl q) = absurd (irreflexive a (subst (R a) (q ∙ sym e) (sorted-after a x l s p)))
+      go (inl q) = absurd (irreflexive a (subst (R a) (q ∙ sym e) (after a x l s p)))
       go (inr q) = q
 
   pub sorted-unique : (l m : List A) → Sorted R l → Sorted R m → ((a : A) → List·Memᴰ a l ↔ List·Memᴰ a m) → l ≡ m
@@ -72,7 +76,7 @@ module _ {A : Type 0} (R : A → A → Type 0) (irreflexive : (a : A) → ¬ R a
       heads : (a ≡ b) ⊎ List·Memᴰ a m → (b ≡ a) ⊎ List·Memᴰ b l → a ≡ b
       heads (inl e) q = e
       heads (inr p) (inl e) = sym e
-      heads (inr p) (inr q) = absurd (irreflexive a (transitive a b a (sorted-after a b l s q) (sorted-after b a m u p)))
+      heads (inr p) (inr q) = absurd (irreflexive a (transitive a b a (after a b l s q) (after b a m u p)))
 
 -- The order of two numbers, the first deciding.
 then-below : (a b c p q r : ℕ) → (a < b) ⊎ ((a ≡ b) × (p < q)) → (b < c) ⊎ ((b ≡ c) × (q < r)) → (a < c) ⊎ ((a ≡ c) × (p < r))

@@ -1,10 +1,10 @@
--- Document 01's number for each refusal, and the number and value of each case of an answer, as the C interface replies them.
+-- The number that documents 01 and 02 give each refusal, and the number and value of each case of an answer, as the C interface replies them.
 use Prim.Native.Nat.{ℕ, _+_, _*_, _^_}
 use mathlib.Core.Option.{Option, none, some}
 use mathlib.Core.Bool.{Bool, true, false}
 use Rattle.journeys.specs.Journey.{Interval}
 use Rattle.rules.specs.declared.Refusal.{Refusal}
-use Rattle.rules.specs.declared.Refusal.the-variants.{AnimalsBeyondLimit, TicksBeyondLimit, CarryBeyondLimit, WrongLength, NotOpen, NotWellFormed, NoSuchAnimal, SameAnimal, TickOutOfRange, ChainBufferTooShort, NotALog, NotAContact, IllegalContact, WrongEnd, LogBufferTooShort, TallyFull}
+use Rattle.rules.specs.declared.Refusal.the-variants.{AnimalsBeyondLimit, TicksBeyondLimit, CarryBeyondLimit, WrongLength, NotOpen, NotWellFormed, NoSuchAnimal, SameAnimal, TickOutOfRange, ChainBufferTooShort, NotALog, NotAContact, IllegalContact, WrongEnd, LogBufferTooShort, TallyFull, DifferentOpenings}
 use Rattle.rules.specs.declared.OpenAnswer.{OpenAnswer}
 use Rattle.rules.specs.declared.OpenAnswer.the-variants.{Opened, Refused as OpenRefused}
 use Rattle.rules.specs.declared.AddAnswer.{AddAnswer}
@@ -13,6 +13,8 @@ use Rattle.rules.specs.declared.WriteAnswer.{WriteAnswer}
 use Rattle.rules.specs.declared.WriteAnswer.the-variants.{Written, Refused as WriteRefused}
 use Rattle.rules.specs.declared.ReadAnswer.{ReadAnswer}
 use Rattle.rules.specs.declared.ReadAnswer.the-variants.{Read, Refused as ReadRefused}
+use Rattle.rules.specs.declared.JoinAnswer.{JoinAnswer}
+use Rattle.rules.specs.declared.JoinAnswer.the-variants.{Joined, Refused as JoinRefused}
 use Rattle.rules.specs.declared.AskAnswer.{AskAnswer}
 use Rattle.rules.specs.declared.AskAnswer.the-variants.{Yes, No, Refused as AskRefused}
 use Rattle.rules.specs.declared.Ends.{Ends}
@@ -27,7 +29,7 @@ use Rattle.rules.specs.declared.ListAnswer.the-variants.{Answered, Refus
 use Rattle.rules.specs.declared.RecordAnswer.{RecordAnswer}
 use Rattle.rules.specs.declared.RecordAnswer.the-variants.{Unasked, Yes as RecordYes, No as RecordNo, Refused as RecordRefused}
 
--- The number of a refusal (document 01, "Where each check sits").
+-- The number of a refusal (document 01, "Where each check sits", and document 02).
 abbrev pub numberOf : Refusal → ℕ
 numberOf AnimalsBeyondLimit = 1
 numberOf TicksBeyondLimit = 2
@@ -45,6 +47,7 @@ numberOf IllegalContact = 13
 numberOf WrongEnd = 14
 numberOf LogBufferTooShort = 15
 numberOf TallyFull = 16
+numberOf DifferentOpenings = 17
 
 -- ---- which answer each case is, and its number, as one reply: 0 is a refusal with its number, 1 and 2 are the answers of the call
 
@@ -72,6 +75,11 @@ writeReply (WriteRefused r) = reply 0 (numberOf r)
 abbrev pub readReply : ReadAnswer → ℕ
 readReply (Read k) = reply 1 k
 readReply (ReadRefused r) = reply 0 (numberOf r)
+
+-- 1 joined, with the number of contacts new to the first table.
+abbrev pub joinReply : JoinAnswer → ℕ
+joinReply (Joined k) = reply 1 k
+joinReply (JoinRefused r) = reply 0 (numberOf r)
 
 -- 1 yes, 2 no.
 abbrev pub askReply : AskAnswer → ℕ
@@ -135,6 +143,10 @@ writeAnswerOf (some r) a = WriteRefused r
 abbrev pub readAnswerOf : Option Refusal → ReadAnswer → ReadAnswer
 readAnswerOf none a = a
 readAnswerOf (some r) a = ReadRefused r
+
+abbrev pub joinAnswerOf : Option Refusal → JoinAnswer → JoinAnswer
+joinAnswerOf none a = a
+joinAnswerOf (some r) a = JoinRefused r
 
 -- Yes where the test passes, else no.
 abbrev pub askAnswerOf : Option Refusal → Bool → AskAnswer

@@ -1,6 +1,6 @@
--- Lists of calls (document 01, "Lists of calls"): what an engine is, the table that a list of contact calls leaves, and the legal
--- contacts of the list.
-use Prim.Native.Nat.{ℕ}
+-- Lists of calls (document 01, "Lists of calls"): what an engine is, the table that a list of contact calls leaves, how many of them are
+-- answered with new, and the legal contacts of the list.
+use Prim.Native.Nat.{ℕ, _+_}
 use mathlib.Core.List.{List, [], _∷_, List·Memᴰ}
 use Rattle.journeys.specs.Journey.{Contact, Contacts}
 use Rattle.rules.specs.declared.OpenAnswer.{OpenAnswer}
@@ -36,6 +36,17 @@ engine =
 unfoldable pub run : Engine → List ℕ → List Contact → List ℕ
 run E T [] = T
 run E T (k ∷ A) = run E (E .add-leaves T k) A
+
+-- 1 where the answer is new, else 0.
+abbrev pub newOne : AddAnswer → ℕ
+newOne (New k) = 1
+newOne (Known k) = 0
+newOne (Refused r) = 0
+
+-- How many calls of the list are answered with new, each on the words that the one before it left.
+unfoldable pub newAdds : Engine → List ℕ → List Contact → ℕ
+newAdds E T [] = 0
+newAdds E T (k ∷ A) = newOne (E .add-answer T k) + newAdds E (E .add-leaves T k) A
 
 -- The table that a list of calls leaves, run on a table freshly opened over some words.
 abbrev pub tableAfter : Engine → ℕ → ℕ → ℕ → List ℕ → List Contact → List ℕ

@@ -9,6 +9,10 @@ pub mod Logs
 pub mod Fresh
 pub mod Orders
 pub mod CallLists
+pub mod AnyOrder
+pub mod Joining
+pub mod JoinRule
+pub mod TableCalls
 pub mod Reading
 pub mod Counting
 pub mod Windows
@@ -33,5 +37,6 @@ pub mod Wrong
 pub mod WrongAnswers
 pub mod Examples
 pub mod LogExamples
+pub mod JoinExamples
 pub mod Session
 pub mod Promised

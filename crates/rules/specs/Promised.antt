@@ -6,6 +6,9 @@ use Rattle.rules.specs.Demand2.{questions, Demand2}
 use Rattle.rules.specs.Demand3.{Demand3}
 use Rattle.rules.specs.LogsRead.{LogsRead}
 use Rattle.rules.specs.CountedCalls.{CountedRule}
+use Rattle.rules.specs.AnyOrder.{AnyOrder}
+use Rattle.rules.specs.JoinRule.{JoinRule}
+use Rattle.rules.specs.TableCalls.{TableCalls}
 use Rattle.rules.specs.ListRule.{ListRule, ListExamples}
 use Rattle.rules.specs.StoredAnswers.{StoredAnswers}
 use Rattle.rules.specs.Claims.{ClaimsJudged}
@@ -14,6 +17,7 @@ use Rattle.rules.specs.Sheet.{sheetText}
 use Rattle.rules.specs.SheetRule.{SheetRule}
 use Rattle.rules.specs.Examples.{Marked, Worked}
 use Rattle.rules.specs.LogExamples.{LogsAnswered}
+use Rattle.rules.specs.JoinExamples.{JoinsWorked}
 use Rattle.rules.specs.Session.{sessionBytes, sessionText}
 use Rattle.rules.specs.Determined.{Determined, DeterminedAnswers}
 use Rattle.rules.specs.Wrong.{Rejected, RejectedTables}
@@ -24,19 +28,24 @@ pub record Promised : Type 1 where
   pub demand1 : Demand1
   pub demand2 : Demand2 engine questions
   pub demand3 : Demand3 engine
-  -- What documents 01 and 02 say beside them: reading a log, counted adds, lists of questions, the earliest arrival and the latest departure on
-  -- tables that no adds built, claimed chains, the chain named, the sheet.
+  -- What documents 01 and 02 say beside them: reading a log, counted adds, contacts added in any order to any table, joining two tables, tables
+  -- built by lists of calls, lists of questions, the earliest arrival and the latest departure on tables that no adds built, claimed chains, the
+  -- chain named, the sheet.
   pub logs-read : LogsRead
   pub counted-rule : CountedRule
+  pub any-order : AnyOrder
+  pub join-rule : JoinRule
+  pub table-calls : TableCalls
   pub list-rule : ListRule
   pub stored-answers : StoredAnswers
   pub claims-judged : ClaimsJudged
   pub named-chains : NamedChains
   pub sheet-rule : SheetRule
-  -- Examples: P1 to P9, those not marked, logs and lists of questions, and the session printed.
+  -- Examples: P1 to P9, those not marked, logs, joins and lists of questions, and the session printed.
   pub marked-hold : Marked
   pub worked-hold : Worked
   pub logs-answered : LogsAnswered
+  pub joins-worked : JoinsWorked
   pub list-examples : ListExamples
   pub session-printed : sheetText sessionBytes ≡ sessionText
   -- Any two engines that meet demand 3, or with their questions demand 2, agree on what it speaks of.

@@ -1,7 +1,7 @@
 // What the calls answer. What each call replies and leaves stands in specs/, the laws in proofs/. This crate has no
 // function.
 
-// Why a call is refused. specs/Answers.antt gives each document 01's number.
+// Why a call is refused. specs/Answers.antt gives each its number of documents 01 and 02.
 pub enum Refusal {
     AnimalsBeyondLimit,
     TicksBeyondLimit,
@@ -19,6 +19,7 @@ pub enum Refusal {
     WrongEnd,
     LogBufferTooShort,
     TallyFull,
+    DifferentOpenings,
 }
 
 // What opening answers.
@@ -43,6 +44,12 @@ pub enum WriteAnswer {
 // What reading a log answers: the number of different contacts.
 pub enum ReadAnswer {
     Read(u32),
+    Refused(Refusal),
+}
+
+// What joining a table into another answers: the number of contacts that were new to it.
+pub enum JoinAnswer {
+    Joined(u32),
     Refused(Refusal),
 }
 

@@ -1,10 +1,10 @@
-//! What document 01 says of each call: the answer, and the words afterwards.
+//! What documents 01 and 02 say of each call: the answer, and the words afterwards.
 
 use crate::testing::check;
 use crate::testing::contents::Contents;
 use crate::testing::model::{self, Contacts, Journeys};
 use crate::testing::words::{self, Interval, Opening, SET_WORDS};
-use crate::{Added, Answer, Chain, Found, Opened, Reached, Read, Written};
+use crate::{Added, Answer, Chain, Found, Joined, Opened, Reached, Read, Written};
 
 /// Opening over these words.
 pub fn open(table: &[u32], animals: u32, ticks: u32, carry: u32) -> (Opened, Vec<u32>) {
@@ -47,6 +47,11 @@ pub fn add(table: &[u32], u: u32, v: u32, t: u32) -> (Added, Vec<u32>) {
     Known::by_words(table).add(table, u, v, t)
 }
 
+/// Joining the table of the second words into that of the first: the answer, and the words of the first afterwards.
+pub fn join(first: &[u32], second: &[u32]) -> (Joined, Vec<u32>) {
+    Known::by_words(first).join(first, &Known::by_words(second))
+}
+
 /// The reach question on the table of these words, which stay as they are.
 pub fn reach(table: &[u32], u: u32, v: u32, first: u32, last: u32) -> Answer {
     Known::by_words(table).reach(u, v, first, last)
@@ -86,6 +91,19 @@ impl Known {
         match checked {
             Err(number) => (Added::Refused(number), table.to_vec()),
             Ok((opening, (cells, answer))) => (answer, words::table(opening, &cells)),
+        }
+    }
+
+    /// Joining a second table into this one: the answer, and this table's words afterwards.
+    pub fn join(&self, table: &[u32], second: &Known) -> (Joined, Vec<u32>) {
+        let checked = self.contents().and_then(|first| {
+            let second = second.contents()?;
+            check::same_opening(first.opening(), second.opening())?;
+            Ok((first.opening(), first.join(second)))
+        });
+        match checked {
+            Err(number) => (Joined::Refused(number), table.to_vec()),
+            Ok((opening, (cells, new))) => (Joined::New(new), words::table(opening, &cells)),
         }
     }
 

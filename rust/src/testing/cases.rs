@@ -41,6 +41,19 @@ pub fn longer_opening(random: &mut Random) -> Opening {
     Opening::new(random.between(2, 12), random.between(10, 40), carry)
 }
 
+/// An opening that differs from this one in one of its numbers, by one.
+pub fn other_opening(random: &mut Random, opening: Opening) -> Opening {
+    let mut other = opening;
+    let (number, most) = match random.below(3) {
+        0 => (&mut other.animals, 256),
+        1 => (&mut other.ticks, 1024),
+        _ => (&mut other.carry, 256),
+    };
+    let more = *number == 1 || *number < most && random.once_in(2);
+    *number = if more { *number + 1 } else { *number - 1 };
+    other
+}
+
 /// A legal contact; there are two animals or more.
 pub fn contact(random: &mut Random, opening: Opening) -> Contact {
     let from = random.between(0, opening.animals - 1);
@@ -133,6 +146,21 @@ fn rising(random: &mut Random, opening: Opening, departures: &[u32], slack: u32)
     }
     rows.reverse();
     rows
+}
+
+/// Cells with a row for each of the contacts alone, and with a few other rows where there are two animals or more.
+pub fn lone_cells(random: &mut Random, opening: Opening, contacts: &[Contact]) -> Cells {
+    let mut cells = vec![Vec::new(); opening.pairs()];
+    for contact in contacts {
+        let alone = contact.interval(opening.carry);
+        insert(&mut cells, opening, (contact.from, contact.to), alone);
+    }
+    for _ in 0..random.below(5) * usize::from(opening.animals > 1) {
+        let (u, v) = pair(random, opening);
+        let other = interval(random, opening);
+        insert(&mut cells, opening, (u, v), other);
+    }
+    cells
 }
 
 /// Contacts with few different ticks, in which animals are often met at once; none where there is one animal.
@@ -261,13 +289,13 @@ pub fn log_contacts(random: &mut Random, opening: Opening, most: usize) -> Vec<C
     contacts
 }
 
-/// The log with one to three of its words changed, moved, left out or put in.
-pub fn damaged_log(random: &mut Random, log: &[u32]) -> Vec<u32> {
-    let mut words = log.to_vec();
+/// The words with one to three of them changed, moved, left out or put in.
+pub fn damaged(random: &mut Random, words: &[u32]) -> Vec<u32> {
+    let mut damaged = words.to_vec();
     for _ in 0..random.between(1, 3) {
-        damage(random, &mut words);
+        damage(random, &mut damaged);
     }
-    words
+    damaged
 }
 
 /// Changes, moves, leaves out or puts in one word.

@@ -1,4 +1,4 @@
-//! Document 01's checks of an open table, of a log and of a call's numbers, each with its refusal.
+//! The checks of documents 01 and 02 of open tables, of a log and of a call's numbers, each with its refusal.
 
 use crate::testing::rule::Stored;
 use crate::testing::words::{self, Cells, Contact, Interval, Opening};
@@ -131,6 +131,15 @@ pub fn log_buffer(log: &[u32], buffer: &[u32]) -> Result<(), u32> {
         Err(15)
     } else {
         Ok(())
+    }
+}
+
+/// Two tables with one opening, or refusal 17.
+pub fn same_opening(first: Opening, second: Opening) -> Result<(), u32> {
+    if first == second {
+        Ok(())
+    } else {
+        Err(17)
     }
 }
 

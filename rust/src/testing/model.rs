@@ -94,6 +94,13 @@ impl Contents for Journeys {
         (after, accepted(!new, changed))
     }
 
+    fn join(&self, second: &dyn Contents) -> (Cells, u32) {
+        let mut both = self.contacts.clone();
+        both.extend(second.held());
+        let new = both.len() - self.contacts.len();
+        (minimal_intervals(self.opening, &both), new as u32)
+    }
+
     fn reaches(&self, u: u32, v: u32, window: Interval) -> bool {
         self.between(u, v).iter().any(|i| i.fits(window))
     }

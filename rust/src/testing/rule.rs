@@ -1,4 +1,4 @@
-//! Document 01's add rule and its questions on cells, word for word, for any well-formed table.
+//! Document 01's add rule and its questions and document 02's join on cells, word for word, for any well-formed table.
 
 use crate::testing::calls::accepted;
 use crate::testing::contents::Contents;
@@ -7,6 +7,7 @@ use crate::Added;
 use std::cmp::Reverse;
 
 /// The cells of a well-formed table; its stored intervals stand for the journeys.
+#[derive(Clone)]
 pub struct Stored {
     opening: Opening,
     cells: Cells,
@@ -26,6 +27,48 @@ impl Stored {
     /// The intervals stored for the pair (u, v).
     pub fn cell(&self, u: u32, v: u32) -> &[Interval] {
         &self.cells[self.opening.pair(u, v)]
+    }
+
+    /// The tick d(x) at which `x` is left on the way to the contact, if any.
+    fn left_at(&self, contact: Contact, x: u32) -> Option<u32> {
+        if x == contact.from {
+            Some(contact.tick)
+        } else {
+            let before = self.latest(x, contact.from, contact.tick);
+            before.map(|i| i.departure)
+        }
+    }
+
+    /// The tick e(y) at which `y` is reached on the way from the contact, if any.
+    fn reached_at(&self, contact: Contact, y: u32) -> Option<u32> {
+        let met = contact.tick + self.opening.carry;
+        if y == contact.to {
+            Some(met)
+        } else {
+            let behind = self.earliest(contact.to, y, met);
+            behind.map(|i| i.arrival)
+        }
+    }
+
+    /// Adds the contact to the cells, and answers.
+    fn take(&mut self, contact: Contact) -> Added {
+        let known = self.holds(contact);
+        let animals = 0..self.opening.animals;
+        let left = animals.clone();
+        let left = left.filter_map(|x| Some((x, self.left_at(contact, x)?)));
+        let left: Vec<(u32, u32)> = left.collect();
+        let reached = animals.filter_map(|y| Some((y, self.reached_at(contact, y)?)));
+        let reached: Vec<(u32, u32)> = reached.collect();
+        let mut changed = 0;
+        for &(x, d) in &left {
+            for &(y, e) in reached.iter().filter(|&&(y, _)| y != x) {
+                let cell = &mut self.cells[self.opening.pair(x, y)];
+                let entered = enter(cell, Interval::new(d, e));
+                changed += u32::from(entered != *cell);
+                *cell = entered;
+            }
+        }
+        accepted(known, changed)
     }
 
     /// The contacts that the chain's rule goes through from `u`, and whether they end at `v`.
@@ -84,31 +127,18 @@ impl Contents for Stored {
     }
 
     fn add(&self, contact: Contact) -> (Cells, Added) {
-        let (u, v, t) = (contact.from, contact.to, contact.tick);
-        let arrival = t + self.opening.carry;
-        let mut after = self.cells.clone();
-        let mut changed = 0;
-        for x in 0..self.opening.animals {
-            let d = if x == u {
-                Some(t)
-            } else {
-                self.latest(x, u, t).map(|i| i.departure)
-            };
-            for y in (0..self.opening.animals).filter(|&y| y != x) {
-                let e = if y == v {
-                    Some(arrival)
-                } else {
-                    self.earliest(v, y, arrival).map(|i| i.arrival)
-                };
-                if let (Some(d), Some(e)) = (d, e) {
-                    let cell = self.cell(x, y);
-                    let entered = enter(cell, Interval::new(d, e));
-                    changed += u32::from(entered != *cell);
-                    after[self.opening.pair(x, y)] = entered;
-                }
-            }
+        let mut after = self.clone();
+        let answer = after.take(contact);
+        (after.cells, answer)
+    }
+
+    fn join(&self, second: &dyn Contents) -> (Cells, u32) {
+        let mut after = self.clone();
+        let mut new = 0;
+        for contact in second.held() {
+            new += u32::from(matches!(after.take(contact), Added::New(_)));
         }
-        (after, accepted(self.holds(contact), changed))
+        (after.cells, new)
     }
 
     fn reaches(&self, u: u32, v: u32, window: Interval) -> bool {

@@ -2,7 +2,7 @@
 //!
 //! A [`Call`] is made through the safe wrapper on a [`Lent`] table, and its answer and every lent word afterwards, those
 //! lent for reading too, are compared with what must be: by the plain search over contacts where the table was built from
-//! contacts, by the text of document 01 where it was not.
+//! contacts, by the text of documents 01 and 02 where it was not.
 
 mod call;
 pub mod draws;
@@ -143,7 +143,7 @@ impl Suite {
         for &(first, last) in &windows {
             self.compare(lent, &Call::Connected(first, last));
         }
-        self.compare_drawn(random, lent, &[Export::WriteLog], 4);
+        self.compare_drawn(random, lent, &[Export::WriteLog, Export::Join], 4);
     }
 
     /// Makes each call with a pair and a window, and compares.

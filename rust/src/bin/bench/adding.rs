@@ -132,19 +132,19 @@ impl Adding {
 }
 
 /// An add that reads the whole table and is refused for its tick.
-fn check(table: &mut [u32]) -> Duration {
+pub fn check(table: &mut [u32]) -> Duration {
     let (answer, lasted) = timed(|| herd::add(table, 0, 1, 0));
     assert_eq!(answer, Added::Refused(9));
     lasted
 }
 
 /// The middle one of the numbers.
-fn median(numbers: &[f64]) -> f64 {
+pub fn median(numbers: &[f64]) -> f64 {
     quarter(numbers, 2)
 }
 
 /// How far the median of such numbers may be off: twice its standard error, judged by the quartiles.
-fn doubt(numbers: &[f64]) -> f64 {
+pub fn doubt(numbers: &[f64]) -> f64 {
     let deviation = (quarter(numbers, 3) - quarter(numbers, 1)) / 1.349;
     2.0 * 1.2533 * deviation / (numbers.len() as f64).sqrt()
 }

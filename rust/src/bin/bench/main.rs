@@ -8,6 +8,7 @@ mod asking;
 mod clock;
 mod closure;
 mod growth;
+mod joining;
 mod loading;
 mod page;
 mod rows;
@@ -16,6 +17,7 @@ mod workloads;
 
 use adding::Adding;
 use asking::Asking;
+use joining::Joining;
 use loading::Loading;
 use page::Goal;
 use workloads::Workload;
@@ -32,13 +34,20 @@ const ASKING: Goal = Goal::AtMost(1.5);
 const WRITING: Goal = Goal::AtMost(3.0);
 /// An add less its check over the same rule in Rust.
 const ADDING: Goal = Goal::AtMost(1.0);
+/// A join less its checks over its adds made singly, less theirs.
+const JOINING: Goal = Goal::AtMost(1.1);
+/// Joining a few contacts over one read of both tables, on the largest.
+const JOINING_FEW: Goal = Goal::AtMost(5.0);
+/// The contacts of each of these tables.
+const FEW: usize = 200;
 
 fn main() {
     println!("A time is the shortest lap of turns that last 50 ms or more together, and all peers take turns.");
-    println!("The time of an add is the median over many contacts.");
+    println!("The time of an add is the median over many contacts; the ratios of a join are medians over its laps.");
     let workloads = workloads::all();
     let tables = print_loading(&workloads);
     print_calls(&workloads, tables);
+    print_joins(&workloads);
     growth::print();
 }
 
@@ -115,4 +124,28 @@ fn print_calls(workloads: &[Workload], tables: Vec<Vec<u32>>) {
     println!(
         "open: beside the check of the table the add was too short to be measured well enough"
     );
+}
+
+/// Prints the ratios of joining one half of each workload's contacts into the other, and of joining a few.
+fn print_joins(workloads: &[Workload]) {
+    page::head(
+        "Joining one half of the contacts into the other, less the checks of both tables: over the same adds",
+        &["made singly", "in Rust"],
+    );
+    page::goals(&[JOINING]);
+    for workload in workloads {
+        let joined = Joining::new(workload).run();
+        let cells = [
+            JOINING.judged_in_doubt(joined.singly, joined.doubt),
+            page::number(joined.rust),
+        ];
+        page::line(workload.name, &cells);
+    }
+    println!(
+        "open: beside the checks of the table the adds were too short to be measured well enough"
+    );
+    let (join, read) = Joining::new(&workloads::largest(2 * FEW)).join_and_read();
+    let ratio = join / read;
+    let (number, verdict) = (page::number(ratio), page::verdict(JOINING_FEW.met(ratio)));
+    println!("largest table, {FEW} contacts joined with {FEW}, over one read of the words of both tables: {number}; goal {JOINING_FEW}, {verdict}");
 }

@@ -37,6 +37,12 @@ impl Workload {
         }
     }
 
+    /// Its contacts at even places, and those at odd ones.
+    pub fn halves(&self) -> [Vec<Contact>; 2] {
+        let from = |first| self.contacts.iter().skip(first).step_by(2);
+        [0, 1].map(|first| from(first).copied().collect())
+    }
+
     /// The words of the log of its first contacts.
     pub fn log_of(&self, number: usize) -> Vec<u32> {
         words::log(self.opening, self.contacts[..number].iter().copied())
@@ -55,6 +61,11 @@ pub fn all() -> Vec<Workload> {
         Workload::complete("complete, 100 animals", Opening::new(100, 10, 1)),
         Workload::drawn("sparse season", Opening::new(128, 512, 4), 6_000),
         Workload::drawn("dense pen", Opening::new(24, 256, 3), 60_000),
-        Workload::drawn("largest table", Opening::new(256, 1024, 2), 200),
+        largest(200),
     ]
+}
+
+/// So many contacts of the largest table.
+pub fn largest(contacts: usize) -> Workload {
+    Workload::drawn("largest table", Opening::new(256, 1024, 2), contacts)
 }

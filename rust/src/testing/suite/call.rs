@@ -13,6 +13,8 @@ pub enum Call {
     ReadLog(Vec<u32>),
     /// The animal left, the animal met, the tick.
     Add(u32, u32, u32),
+    /// The second table.
+    Join(Vec<u32>),
     /// The buffer.
     WriteLog(Vec<u32>),
     /// From, to, first, last.
@@ -60,6 +62,7 @@ impl Call {
             Call::Open(..) => Export::Open,
             Call::ReadLog(..) => Export::ReadLog,
             Call::Add(..) => Export::Add,
+            Call::Join(..) => Export::Join,
             Call::WriteLog(..) => Export::WriteLog,
             Call::Reach(..) => Export::Reach,
             Call::Earliest(..) => Export::Earliest,
@@ -98,6 +101,11 @@ impl Call {
             Call::Add(u, v, t) => {
                 let answer = crate::add(&mut table, u, v, t);
                 Outcome::new(answer, &table, &[])
+            }
+            Call::Join(ref second) => {
+                let second = lend(1, second).freeze();
+                let answer = crate::join(&mut table, &second);
+                Outcome::new(answer, &table, &second)
             }
             Call::WriteLog(ref buffer) => {
                 let (table, mut buffer) = (table.freeze(), lend(1, buffer));
@@ -152,6 +160,10 @@ impl Call {
             Call::Add(u, v, t) => {
                 let (answer, after) = known.add(table, u, v, t);
                 Outcome::new(answer, &after, &[])
+            }
+            Call::Join(ref second) => {
+                let (answer, after) = known.join(table, &Known::by_words(second));
+                Outcome::new(answer, &after, second)
             }
             Call::WriteLog(ref buffer) => {
                 let (answer, after) = known.write_log(buffer);

@@ -5,7 +5,7 @@ use super::lent::Lent;
 use super::reply::Export;
 use crate::testing::cases;
 use crate::testing::random::Random;
-use crate::testing::words::{self, Contact, Interval, Opening};
+use crate::testing::words::{self, Cells, Contact, Interval, Opening};
 
 impl Lent {
     /// A call of this kind.
@@ -20,6 +20,7 @@ impl Lent {
                 let t = tick(random, opening.ticks);
                 Call::Add(u, v, t)
             }
+            Export::Join => Call::Join(self.second(random)),
             Export::WriteLog => Call::WriteLog(buffer(random, self.held.len() + 2)),
             Export::Reach => Call::Reach(u, v, first, last),
             Export::Earliest => {
@@ -64,9 +65,35 @@ impl Lent {
         let contacts = cases::log_contacts(random, self.opening, 12);
         let mut log = words::log(self.opening, contacts);
         if random.once_in(2) {
-            log = cases::damaged_log(random, &log);
+            log = cases::damaged(random, &log);
         }
         Call::ReadLog(log)
+    }
+
+    /// A second table to join: mostly a well-formed one with this one's numbers, which holds some of its contacts and others.
+    /// Where these words have not the length for their numbers, it has numbers of its own.
+    fn second(&self, random: &mut Random) -> Vec<u32> {
+        if random.once_in(8) && self.held.len() < 100 {
+            return self.words.clone();
+        }
+        let mut opening = self.opening;
+        if self.words.len() != opening.table_words() {
+            opening = cases::opening(random);
+        } else if random.once_in(8) {
+            opening = cases::other_opening(random, opening);
+        }
+        let mut contacts = cases::log_contacts(random, opening, 8);
+        if opening == self.opening {
+            let shared = self.held.iter().filter(|_| random.once_in(4));
+            contacts.extend(shared.take(8));
+        }
+        let cells = cases::lone_cells(random, opening, &contacts);
+        let second = words::table(opening, &cells);
+        if random.once_in(8) {
+            cases::damaged(random, &second)
+        } else {
+            second
+        }
     }
 
     /// A claimed chain: a journey of held contacts, or one that was damaged.
@@ -225,31 +252,45 @@ pub fn set(random: &mut Random) -> Vec<u32> {
 
 /// A small table that adds built.
 pub fn built(random: &mut Random) -> Lent {
-    let opening = match random.below(3) {
+    let opening = opening(random);
+    let contacts = contacts(random, opening);
+    Lent::built(random, opening, &contacts)
+}
+
+/// A small opening, often with two animals or more and with time for several contacts.
+pub fn opening(random: &mut Random) -> Opening {
+    match random.below(3) {
         0 => cases::opening(random),
         1 => cases::opening_with_pairs(random),
         _ => cases::opening_with_time(random),
-    };
-    let contacts = match random.below(3) {
+    }
+}
+
+/// Contacts for a small table.
+pub fn contacts(random: &mut Random, opening: Opening) -> Vec<Contact> {
+    match random.below(3) {
         0 => cases::log_contacts(random, opening, 40),
         1 if opening.animals > 1 => cases::following_contacts(random, opening, 20),
         _ => cases::crowded_contacts(random, opening),
-    };
-    Lent::built(random, opening, &contacts)
+    }
 }
 
 /// A small well-formed table that no adds built.
 pub fn stored(random: &mut Random) -> Lent {
-    let opening = cases::opening_with_time(random);
-    let cells = match random.below(4) {
-        0 => {
-            let opening = cases::opening(random);
-            let cells = cases::cells(random, opening);
-            return Lent::stored(opening, &cells);
-        }
-        1 => cases::cells(random, opening),
-        2 => cases::cells_near_closure(random, opening),
-        _ => cases::planted_cells(random, opening).0,
+    let opening = if random.once_in(4) {
+        cases::opening(random)
+    } else {
+        cases::opening_with_time(random)
     };
+    let cells = cells(random, opening);
     Lent::stored(opening, &cells)
+}
+
+/// Cells for a small well-formed table, which need not be a closure.
+pub fn cells(random: &mut Random, opening: Opening) -> Cells {
+    match random.below(3) {
+        0 if opening.animals > 1 => cases::cells_near_closure(random, opening),
+        1 if opening.animals > 1 => cases::planted_cells(random, opening).0,
+        _ => cases::cells(random, opening),
+    }
 }

@@ -1,6 +1,6 @@
 //! What any of the calls answers, and which answers each of them has.
 
-use crate::{Added, Answer, Chain, Found, Interval, Opened, Reached, Read, Written};
+use crate::{Added, Answer, Chain, Found, Interval, Joined, Opened, Reached, Read, Written};
 
 /// The engine's calls.
 #[derive(Clone, Copy, Debug, PartialEq, Eq, PartialOrd, Ord)]
@@ -8,6 +8,7 @@ pub enum Export {
     Open,
     ReadLog,
     Add,
+    Join,
     WriteLog,
     Reach,
     Earliest,
@@ -31,6 +32,8 @@ pub enum Reply {
     New(u32),
     /// So many cells changed.
     Known(u32),
+    /// So many contacts new to the first table.
+    Joined(u32),
     /// So many words.
     Written(u32),
     /// It is so.
@@ -51,10 +54,11 @@ pub enum Reply {
 
 impl Export {
     /// Every call.
-    pub const ALL: [Export; 11] = [
+    pub const ALL: [Export; 12] = [
         Export::Open,
         Export::ReadLog,
         Export::Add,
+        Export::Join,
         Export::WriteLog,
         Export::Reach,
         Export::Earliest,
@@ -66,8 +70,9 @@ impl Export {
     ];
 
     /// The calls on an open table.
-    pub const ON_OPEN_TABLES: [Export; 9] = [
+    pub const ON_OPEN_TABLES: [Export; 10] = [
         Export::Add,
+        Export::Join,
         Export::WriteLog,
         Export::Reach,
         Export::Earliest,
@@ -84,6 +89,7 @@ impl Export {
             Export::Open => &["opened"],
             Export::ReadLog => &["read"],
             Export::Add => &["new", "known"],
+            Export::Join => &["joined"],
             Export::WriteLog => &["written"],
             Export::Reach | Export::Connected | Export::Claimed => &["yes", "no"],
             Export::Earliest | Export::Latest => &["at", "nothing"],
@@ -97,6 +103,7 @@ impl Export {
         match self {
             Export::Open => &[1, 2, 3, 4],
             Export::ReadLog => &[11, 4, 12, 13, 14],
+            Export::Join => &[5, 6, 17],
             Export::WriteLog => &[5, 6, 15],
             Export::Connected => &[5, 6, 9],
             Export::Reached => &[5, 6, 7, 9],
@@ -115,6 +122,7 @@ impl Reply {
             Reply::Read(_) => "read",
             Reply::New(_) => "new",
             Reply::Known(_) => "known",
+            Reply::Joined(_) => "joined",
             Reply::Written(_) => "written",
             Reply::Yes => "yes",
             Reply::No => "no",
@@ -151,6 +159,15 @@ impl From<Added> for Reply {
             Added::New(cells) => Reply::New(cells),
             Added::Known(cells) => Reply::Known(cells),
             Added::Refused(number) => Reply::Refused(number),
+        }
+    }
+}
+
+impl From<Joined> for Reply {
+    fn from(answer: Joined) -> Reply {
+        match answer {
+            Joined::New(contacts) => Reply::Joined(contacts),
+            Joined::Refused(number) => Reply::Refused(number),
         }
     }
 }

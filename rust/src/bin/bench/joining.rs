@@ -1,0 +1,188 @@
+//! Joining two tables: the engine's join less the checks of both, beside its adds made singly less a check for each, and
+//! beside the same adds in Rust without a check.
+
+use crate::adding::{check, doubt, median};
+use crate::adds;
+use crate::asking::read;
+use crate::clock::{race, timed};
+use crate::ticks;
+use crate::workloads::Workload;
+use herd::testing::compare::same_words;
+use herd::testing::model::Contacts;
+use herd::testing::words::{self, Contact, Opening};
+use herd::{Added, Joined};
+use std::time::{Duration, Instant};
+
+/// The laps of a run last this long together.
+const LONG: Duration = Duration::from_secs(4);
+/// The laps of a run are at least so many, however long they last.
+const LEAST: usize = 3;
+/// The laps of a run are at most so many.
+const MOST: usize = 9;
+/// The adds timed singly in one lap last about so many seconds together.
+const SINGLY: f64 = 0.5;
+/// The adds timed singly in one lap are at most so many.
+const MOST_SINGLY: f64 = 200.0;
+/// Each of them is the shortest of so many.
+const TIMES: usize = 5;
+/// The part of the check's time below which a difference of two times tells nothing.
+const GRAIN: f64 = 0.01;
+/// The doubt about the ratio to adds made singly from which on nothing is told.
+const TOLD: f64 = 1.0;
+
+/// The ratios of the join less its checks to its adds made singly less theirs, with how far that may be off, and to the
+/// same adds in Rust; no number where nothing is told.
+pub struct Ratios {
+    pub singly: f64,
+    pub doubt: f64,
+    pub rust: f64,
+}
+
+/// The seconds of one lap: a check of the first table, the join less its checks, the same adds in Rust, and the adds made
+/// singly less theirs.
+struct Lap {
+    check: f64,
+    join: f64,
+    rust: f64,
+    singly: f64,
+}
+
+/// The engine's table and Rust's over one half of the contacts, the table over the other half with its contacts in log
+/// order, the number of those that are new, and room for one table more.
+pub struct Joining {
+    opening: Opening,
+    log: Vec<u32>,
+    first: Vec<u32>,
+    other: Vec<u32>,
+    second: Vec<u32>,
+    contacts: Vec<Contact>,
+    new: u32,
+    before: Vec<u32>,
+}
+
+impl Joining {
+    /// Joining the half of the workload's contacts at odd places into the half at even ones.
+    pub fn new(workload: &Workload) -> Joining {
+        let opening = workload.opening;
+        let length = opening.table_words();
+        let [first, second] = workload.halves();
+        let (held, joined) = (Contacts::from_iter(first), Contacts::from_iter(second));
+        let mut joining = Joining {
+            opening,
+            log: words::log(opening, held.iter().copied()),
+            first: vec![1; length],
+            other: vec![1; length],
+            second: vec![1; length],
+            new: joined.difference(&held).count() as u32,
+            contacts: joined.into_iter().collect(),
+            before: Vec::new(),
+        };
+        let log = words::log(opening, joining.contacts.iter().copied());
+        ticks::load(&log, &mut joining.second);
+        joining
+    }
+
+    /// The medians over laps, in which all peers take turns; a first lap tells whether adds can be timed singly.
+    pub fn run(&mut self) -> Ratios {
+        let number = self.contacts.len() as f64;
+        let trial = self.lap(usize::MAX);
+        let grain = GRAIN * trial.check * number / trial.rust;
+        if grain >= TOLD {
+            return Ratios {
+                singly: f64::NAN,
+                doubt: f64::NAN,
+                rust: f64::NAN,
+            };
+        }
+        let many = SINGLY / (5.0 * TIMES as f64 * trial.check);
+        let step = (number / many.clamp(1.0, MOST_SINGLY)).ceil() as usize;
+        let (mut singly, mut rust) = (Vec::new(), Vec::new());
+        let start = Instant::now();
+        for laps in 0..MOST {
+            if laps >= LEAST && start.elapsed() > LONG {
+                break;
+            }
+            let lap = self.lap(step);
+            singly.push(lap.join / lap.singly);
+            rust.push(lap.join / lap.rust);
+        }
+        Ratios {
+            singly: median(&singly),
+            doubt: doubt(&singly).max(grain * median(&singly)),
+            rust: median(&rust),
+        }
+    }
+
+    /// The seconds of one join, and of one read of the words of both tables.
+    pub fn join_and_read(&mut self) -> (f64, f64) {
+        let seconds = race(2, |peer| match peer {
+            0 => self.join(),
+            _ => timed(|| [&self.first, &self.second].map(|table| read(table))).1,
+        });
+        (seconds[0], seconds[1])
+    }
+
+    /// One lap, in which one in so many adds, the first among them, is timed singly; both tables are compared.
+    fn lap(&mut self, step: usize) -> Lap {
+        ticks::load(&self.log, &mut self.first);
+        check(&mut self.second);
+        let checks = [check(&mut self.first), check(&mut self.second)];
+        let [first, second] = checks.map(|check| check.as_secs_f64());
+        let join = self.join().as_secs_f64();
+        let (rust, singly) = self.adds(step);
+        same_words(&self.first, &self.other, "adds in Rust");
+        Lap {
+            check: first,
+            join: join - first - second,
+            rust,
+            singly,
+        }
+    }
+
+    /// One join.
+    fn join(&mut self) -> Duration {
+        ticks::load(&self.log, &mut self.first);
+        let (answer, lasted) = timed(|| herd::join(&mut self.first, &self.second));
+        assert_eq!(answer, Joined::New(self.new));
+        lasted
+    }
+
+    /// The seconds of all adds in Rust, and made singly, judged by the means over those that are made so; no number where
+    /// these would last no time.
+    fn adds(&mut self, step: usize) -> (f64, f64) {
+        ticks::load(&self.log, &mut self.other);
+        let (mut rust, mut singly) = (Vec::new(), Vec::new());
+        for place in 0..self.contacts.len() {
+            let contact = self.contacts[place];
+            if place % step == 0 {
+                singly.push(self.single_add(contact));
+            } else {
+                let add = || adds::add(self.opening, &mut self.other, contact);
+                rust.push(timed(add).1.as_secs_f64());
+            }
+        }
+        let all = |times: &[f64]| {
+            let mean = times.iter().sum::<f64>() / times.len() as f64;
+            let lasted = mean * self.contacts.len() as f64;
+            Some(lasted).filter(|&time| time > 0.0).unwrap_or(f64::NAN)
+        };
+        (all(&rust), all(&singly))
+    }
+
+    /// The seconds of the shortest of some adds of the contact to the same table, less the shortest of the checks about them.
+    fn single_add(&mut self, contact: Contact) -> f64 {
+        let (u, v, t) = (contact.from, contact.to, contact.tick);
+        let (mut shortest, mut checked) = (Duration::MAX, Duration::MAX);
+        self.before.clone_from(&self.other);
+        for _ in 0..TIMES {
+            self.other.copy_from_slice(&self.before);
+            check(&mut self.other);
+            checked = checked.min(check(&mut self.other));
+            let (answer, lasted) = timed(|| herd::add(&mut self.other, u, v, t));
+            assert!(!matches!(answer, Added::Refused(_)), "{answer:?}");
+            shortest = shortest.min(lasted);
+            checked = checked.min(check(&mut self.other));
+        }
+        shortest.as_secs_f64() - checked.as_secs_f64()
+    }
+}
