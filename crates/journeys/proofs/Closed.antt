@@ -8,7 +8,7 @@ use mathlib.Core.List.{List, [], _∷_, List·Memᴰ, List·Memᴰ·cases-cons, 
 use Prim.Native.Nat.{ℕ, zero, suc, _+_, _≤_}
 use native.Mathlib.Omega.{arith}
 use native.Mathlib.Decide.{ℕ-discrete}
-use Rattle.journeys.specs.Journey.{Contact, Contacts, In, With, Same, Interval, interval, Inside, Journey, Minimal}
+use Rattle.journeys.specs.Journey.{Contact, Contacts, In, With, Union, Same, Interval, interval, Inside, Journey, Minimal}
 use Rattle.journeys.specs.Cell.{Cell, Rising, latestDeparture, earliestArrival}
 use Rattle.journeys.specs.Adding.{Cells, departureOf, arrivalOf, enterBoth, add, addAll, ListsMinimal}
 use Rattle.journeys.proofs.Tests.{Outcome, holds, fails, eq-outcome}
@@ -172,28 +172,25 @@ add-diagonal δ T k x = go (eq-outcome x x)
 
 -- ---- a list of contacts
 
--- The contacts of S and those of l.
-abbrev pub Joined : Contacts → List Contact → Contacts
-Joined S l k = S k ⊎ In l k
-
-joined-cons : (S : Contacts) (k : Contact) (l : List Contact) → Same (Joined (With S k) l) (Joined S (k ∷ l))
-joined-cons S k l c = (to, of)
+-- The first contact of a list joins the set, and then the others.
+union-cons : (S : Contacts) (k : Contact) (l : List Contact) → Same (Union (With S k) (In l)) (Union S (In (k ∷ l)))
+union-cons S k l c = (to, of)
   where
-    to : Joined (With S k) l c → Joined S (k ∷ l) c
+    to : Union (With S k) (In l) c → Union S (In (k ∷ l)) c
     to (inl (inl s)) = inl s
     to (inl (inr e)) = inr (List·Memᴰ·head e)
     to (inr m) = inr (List·Memᴰ·tail m)
 
-    of : Joined S (k ∷ l) c → Joined (With S k) l c
+    of : Union S (In (k ∷ l)) c → Union (With S k) (In l) c
     of (inl s) = inl (inl s)
     of (inr m) = ⊎-elim (λ e. inl (inr e)) inr (List·Memᴰ·cases-cons m)
 
 -- On top of any cells, a list of contacts takes what S reaches to what S with the list reaches.
 pub addAll-closed : {B : Cells} → Forward B → {δ : ℕ} (l : List Contact) (S : Contacts) (T : Cells) → ((p q : ℕ) → p ≢ q → ClosedOn B S δ p q (T p q))
-    → (x y : ℕ) → x ≢ y → ClosedOn B (Joined S l) δ x y (addAll δ T l x y)
+    → (x y : ℕ) → x ≢ y → ClosedOn B (Union S (In l)) δ x y (addAll δ T l x y)
 unfolding addAll
 addAll-closed w [] S T f x y n = closed-map (λ k. (inl, ⊎-elim (λ s. s) (λ m. absurd (List·Memᴰ·not-nil m)))) (f x y n)
-addAll-closed w {δ} (k ∷ l) S T f x y n = closed-map (joined-cons S k l) (addAll-closed w l (With S k) (add δ T k) (λ p q m. add-closed w T k p q f m) x y n)
+addAll-closed w {δ} (k ∷ l) S T f x y n = closed-map (union-cons S k l) (addAll-closed w l (With S k) (add δ T k) (λ p q m. add-closed w T k p q f m) x y n)
 
 pub addAll-diagonal : (δ : ℕ) (T : Cells) (l : List Contact) (x : ℕ) → addAll δ T l x x ≡ T x x
 unfolding addAll

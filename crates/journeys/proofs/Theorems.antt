@@ -5,13 +5,13 @@ use mathlib.Core.List.{List, [], List·Memᴰ}
 use Prim.Native.Nat.{ℕ, _+_, _≤_}
 use native.Mathlib.Omega.{arith}
 use native.Mathlib.Decide.{ℕ-discrete}
-use Rattle.journeys.specs.Journey.{Contact, contact, Contacts, In, With, Same, Apart, Interval, interval, Inside, JourneyTo, single, onward, Minimal}
+use Rattle.journeys.specs.Journey.{Contact, contact, Contacts, In, With, Union, Same, Apart, Interval, interval, Inside, JourneyTo, single, onward, Minimal}
 use Rattle.journeys.specs.Cell.{Cell}
 use Rattle.journeys.specs.Adding.{Cells, add, addAll, cellsOver, ListsMinimal, CellsOf}
 use Rattle.journeys.specs.Theorems.{Closure, ContactsStand, EqualCells, Unchanged, FitsStored, RowsSuffice, SameMembers}
 use Rattle.journeys.proofs.Cover.{covers-find, same-cover, members-cover}
 use Rattle.journeys.proofs.Reach.{empty, empty-forward, journey-carries, within-reach}
-use Rattle.journeys.proofs.Closed.{Closed, closed-lists, lists-closed, closed-map, closed-unique, add-closed, add-diagonal, Joined, addAll-closed, addAll-diagonal, rising-closed}
+use Rattle.journeys.proofs.Closed.{Closed, closed-lists, lists-closed, closed-map, closed-unique, add-closed, add-diagonal, addAll-closed, addAll-diagonal, rising-closed}
 use Rattle.journeys.proofs.Rows.{rows-suffice, add-wellFormed}
 
 pub cells-closed : {S : Contacts} {δ : ℕ} {T : Cells} → CellsOf S δ T → (x y : ℕ) → x ≢ y → Closed S δ x y (T x y)
@@ -30,7 +30,7 @@ one-more : (δ : ℕ) (S : Contacts) (T : Cells) (k : Contact) → CellsOf S δ 
 one-more δ S T k c = closed-cells (λ x y n. add-closed empty-forward T k x y (cells-closed c) n) (λ x. add-diagonal δ T k x ∙ c .diagonal x)
 
 -- A list of contacts added to the cells of a set gives the cells of both together.
-pub addAll-cells : (δ : ℕ) (S : Contacts) (T : Cells) (l : List Contact) → CellsOf S δ T → CellsOf (Joined S l) δ (addAll δ T l)
+pub addAll-cells : (δ : ℕ) (S : Contacts) (T : Cells) (l : List Contact) → CellsOf S δ T → CellsOf (Union S (In l)) δ (addAll δ T l)
 addAll-cells δ S T l k = closed-cells (addAll-closed empty-forward l S T (cells-closed k)) (λ x. addAll-diagonal δ T l x ∙ k .diagonal x)
 
 -- Empty cells are those of no contacts.

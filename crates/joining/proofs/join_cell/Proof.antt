@@ -2,12 +2,12 @@
 use Prim.Native.Nat.{_-_}
 use native.Mathlib.Omega.{arith}
 use borrow.Author.Needs.{needs}
-use Rattle.joining.proofs.Joined.{joined-kept, JoinedRows, rows-start, row-addable, row-few, row-turn, rows-joined}
+use Rattle.joining.proofs.Adds.{added-kept, AddedRows, rows-start, row-addable, row-few, row-turn, rows-added}
 use Rattle.joining.proofs.join_cell.Statement.{statement}
 use Rattle.joining.proofs.join_cell.Tie as tie
 
 abbrev Inv-loop : tie.InvT-loop
-Inv-loop first₀ cell u v carry end new₀ i₀ first new i = JoinedRows carry u v cell first₀ first new end i
+Inv-loop first₀ cell u v carry end new₀ i₀ first new i = AddedRows carry u v cell first₀ first new end i
 
 abbrev μ-loop : tie.MeasureT-loop
 μ-loop first₀ cell u v carry end new₀ i₀ first new i = end - i
@@ -47,5 +47,5 @@ join-cell-spec =
     (tie.spec
     Inv-loop μ-loop (λ c. omega arith) (λ c κs. search needs) (λ c. omega arith) (λ c. omega arith)
     (λ c. rows-start _ _ _ (c .rows-of .ensures) (start c .pre .0 .1)) (λ c. omega arith) (λ c. omega arith) join-row-requires add-new
-    (λ c. omega arith) (λ c. omega arith) loop-again (λ c. joined-kept (c .before .loop .inv .joined) (entry (c .before) .pre .1))
-    (λ c. rows-joined (c .before .loop .inv) (c .loop-test .left)))
+    (λ c. omega arith) (λ c. omega arith) loop-again (λ c. added-kept (c .before .loop .inv .added) (entry (c .before) .pre .1))
+    (λ c. rows-added (c .before .loop .inv) (c .loop-test .left)))

@@ -7,12 +7,12 @@ use Rattle.rules.proofs.Sound.{table-sizes}
 use Rattle.tables.proofs.Stored.{lent-stored}
 use Rattle.logs.specs.Ordered.{cellContacts}
 use Rattle.joining.specs.Contacts.{contactsBetween}
-use Rattle.joining.proofs.Joined.{joined-kept, JoinedLists, lists-start, list-addable, list-few, list-turn, lists-joined, between-lent}
+use Rattle.joining.proofs.Adds.{added-kept, AddedLists, lists-start, list-addable, list-few, list-turn, lists-added, between-lent}
 use Rattle.joining.proofs.join_contacts_from.Statement.{statement}
 use Rattle.joining.proofs.join_contacts_from.Tie as tie
 
 abbrev Inv-loop : tie.InvT-loop
-Inv-loop first₀ second u n time new₀ v₀ first new v = JoinedLists (contactsBetween second u) n first₀ first new v
+Inv-loop first₀ second u n time new₀ v₀ first new v = AddedLists (contactsBetween second u) n first₀ first new v
 
 abbrev μ-loop : tie.MeasureT-loop
 μ-loop first₀ second u n time new₀ v₀ first new v = n - v
@@ -67,4 +67,4 @@ join-contacts-from-spec =
     tie.close
     (tie.spec
     Inv-loop μ-loop (λ c. lists-start _ _ _) cell-requires join-cell-requires add-new (λ c. omega arith) (λ c. omega arith) loop-again
-    (λ c. joined-kept (c .before .loop .inv .joined) (entry (c .before) .pre .1)) (λ c. lists-joined (c .before .loop .inv) (c .loop-test .left)))
+    (λ c. added-kept (c .before .loop .inv .added) (entry (c .before) .pre .1)) (λ c. lists-added (c .before .loop .inv) (c .loop-test .left)))

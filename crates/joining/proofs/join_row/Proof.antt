@@ -5,7 +5,7 @@ use native.Mathlib.Omega.{arith}
 use borrow.Author.Needs.{needs}
 use Rattle.journeys.specs.Journey.{contact}
 use Rattle.logs.proofs.Passes.{contactsOf, no-contact, one-contact}
-use Rattle.joining.proofs.Joined.{one-accepted, one-leaves, one-known, one-new, no-new, none-leaves}
+use Rattle.joining.proofs.Adds.{one-accepted, one-leaves, one-known, one-new, no-new, none-leaves}
 use Rattle.joining.proofs.join_row.Statement.{statement}
 use Rattle.joining.proofs.join_row.Tie as tie
 

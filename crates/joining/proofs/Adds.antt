@@ -106,37 +106,37 @@ none-leaves T a e = ap (run engine T) (sym e)
 -- ---- the invariant of the loops
 
 -- Of all contacts those before `rest` are added to T₀: T is left, and `new` of them were new.
-pub record Joined (all rest : List Contact) (T₀ T : List ℕ) (new : ℕ) : Type 0 where
+pub record AddedSoFar (all rest : List Contact) (T₀ T : List ℕ) (new : ℕ) : Type 0 where
   pub done : List Contact
   pub whole : all ≡ done ++ rest
   pub table : T ≡ run engine T₀ done
   pub number : new ≡ newAdds engine T₀ done
 
 -- At first all are left.
-pub joined-start : (all rest : List Contact) (T : List ℕ) → rest ≡ all → Joined all rest T T 0
+pub added-start : (all rest : List Contact) (T : List ℕ) → rest ≡ all → AddedSoFar all rest T T 0
 unfolding run newAdds
-joined-start all rest T e = record { done = []; whole = sym e; table = refl; number = refl }
+added-start all rest T e = record { done = []; whole = sym e; table = refl; number = refl }
 
-module _ {all rest : List Contact} {T₀ T : List ℕ} {new : ℕ} (w : Joined all rest T₀ T new) where
+module _ {all rest : List Contact} {T₀ T : List ℕ} {new : ℕ} (w : AddedSoFar all rest T₀ T new) where
   module _ (a b : List Contact) (e : rest ≡ a ++ b) where
     next-whole : all ≡ (w .done ++ a) ++ b
     next-whole = w .whole ∙ ap (λ (r : List Contact). w .done ++ r) e ∙ sym (append-assoc (w .done) a b)
 
     -- The next contacts can be added.
-    pub joined-addable : Addable T₀ all → Addable T a
-    joined-addable h = subst (λ (L : List ℕ). Addable L a) (sym (w .table)) (addable-back (w .done) a (addable-front (w .done ++ a) b (subst (Addable T₀) next-whole h)))
+    pub added-addable : Addable T₀ all → Addable T a
+    added-addable h = subst (λ (L : List ℕ). Addable L a) (sym (w .table)) (addable-back (w .done) a (addable-front (w .done ++ a) b (subst (Addable T₀) next-whole h)))
 
     module _ {r : ℕ} (f : r ≡ newAdds engine T a) where
       next-number : new + r ≡ newAdds engine T₀ (w .done ++ a)
       next-number = ap₂ _+_ (w .number) (f ∙ ap (λ (L : List ℕ). newAdds engine L a) (w .table)) ∙ sym (new-append T₀ (w .done) a)
 
       -- Their number can be told.
-      pub joined-few : Addable T₀ all → new + r ≤ maxContacts
-      joined-few h = omega (arith, next-number, new-few T₀ (w .done ++ a), addable-front (w .done ++ a) b (subst (Addable T₀) next-whole h) .few)
+      pub added-few : Addable T₀ all → new + r ≤ maxContacts
+      added-few h = omega (arith, next-number, new-few T₀ (w .done ++ a), addable-front (w .done ++ a) b (subst (Addable T₀) next-whole h) .few)
 
       -- They are added.
-      pub joined-turn : {U : List ℕ} → U ≡ run engine T a → Joined all b T₀ U (new + r)
-      joined-turn g =
+      pub added-turn : {U : List ℕ} → U ≡ run engine T a → AddedSoFar all b T₀ U (new + r)
+      added-turn g =
           record {
             done = w .done ++ a;
             whole = next-whole;
@@ -145,46 +145,46 @@ module _ {all rest : List Contact} {T₀ T : List ℕ} {new : ℕ} (w : Joined a
           }
 
   -- The table keeps its length.
-  pub joined-kept : Addable T₀ all → length T ≡ length T₀
-  joined-kept h = ap length (w .table) ∙ run-length T₀ (h .valid) (w .done)
+  pub added-kept : Addable T₀ all → length T ≡ length T₀
+  added-kept h = ap length (w .table) ∙ run-length T₀ (h .valid) (w .done)
 
   -- At the end none are left.
-  pub joined-end : rest ≡ [] → (new ≡ newAdds engine T₀ all) × (T ≡ run engine T₀ all)
-  joined-end e =
+  pub added-end : rest ≡ [] → (new ≡ newAdds engine T₀ all) × (T ≡ run engine T₀ all)
+  added-end e =
       let q : w .done ≡ all = sym (w .whole ∙ ap (λ (r : List Contact). w .done ++ r) e ∙ append-nil (w .done)) in
       (w .number ∙ ap (newAdds engine T₀) q, w .table ∙ ap (run engine T₀) q)
 
 -- ---- the rows of a cell
 
 -- The contacts of the rows before i of cell (u, v), whose rows in use end at e, are added.
-pub record JoinedRows (δ u v : ℕ) (cell T₀ T : List ℕ) (new e i : ℕ) : Type 0 where
+pub record AddedRows (δ u v : ℕ) (cell T₀ T : List ℕ) (new e i : ℕ) : Type 0 where
   pub loop : RowLoop cell e i
-  pub joined : Joined (cellContacts δ u v (cellOf cell)) (contactsLeft δ u v cell e i) T₀ T new
+  pub added : AddedSoFar (cellContacts δ u v (cellOf cell)) (contactsLeft δ u v cell e i) T₀ T new
 
 -- No row is passed yet.
-pub rows-start : {δ u v : ℕ} (cell T : List ℕ) (k : ℕ) → k ≡ rowsIn cell → Stored cell → JoinedRows δ u v cell T T 0 (k + 1) 1
-rows-start {δ} {u} {v} cell T k e h = let f = count-fits cell h in record { loop = rows-begin cell k e f; joined = joined-start _ _ T (all-left δ u v cell k e f) }
+pub rows-start : {δ u v : ℕ} (cell T : List ℕ) (k : ℕ) → k ≡ rowsIn cell → Stored cell → AddedRows δ u v cell T T 0 (k + 1) 1
+rows-start {δ} {u} {v} cell T k e h = let f = count-fits cell h in record { loop = rows-begin cell k e f; added = added-start _ _ T (all-left δ u v cell k e f) }
 
-module _ {δ u v : ℕ} {cell T₀ T : List ℕ} {new e i : ℕ} (w : JoinedRows δ u v cell T₀ T new e i) where
+module _ {δ u v : ℕ} {cell T₀ T : List ℕ} {new e i : ℕ} (w : AddedRows δ u v cell T₀ T new e i) where
   module _ (h : i < e) where
     left : contactsLeft δ u v cell e i ≡ contactsOf δ u v (getD cell i 0) ++ contactsLeft δ u v cell e (i + 1)
     left = next-left δ u v cell (w .loop) h
 
     -- The contact of the next row can be added.
     pub row-addable : Addable T₀ (cellContacts δ u v (cellOf cell)) → Addable T (contactsOf δ u v (getD cell i 0))
-    row-addable = joined-addable (w .joined) _ _ left
+    row-addable = added-addable (w .added) _ _ left
 
     module _ {r : ℕ} (f : r ≡ newAdds engine T (contactsOf δ u v (getD cell i 0))) where
       pub row-few : Addable T₀ (cellContacts δ u v (cellOf cell)) → new + r ≤ maxContacts
-      row-few = joined-few (w .joined) _ _ left f
+      row-few = added-few (w .added) _ _ left f
 
       -- It is added.
-      pub row-turn : {U : List ℕ} → U ≡ run engine T (contactsOf δ u v (getD cell i 0)) → JoinedRows δ u v cell T₀ U (new + r) e (i + 1)
-      row-turn g = record { loop = rows-turn (w .loop) h; joined = joined-turn (w .joined) _ _ left f g }
+      pub row-turn : {U : List ℕ} → U ≡ run engine T (contactsOf δ u v (getD cell i 0)) → AddedRows δ u v cell T₀ U (new + r) e (i + 1)
+      row-turn g = record { loop = rows-turn (w .loop) h; added = added-turn (w .added) _ _ left f g }
 
   -- All rows are passed.
-  pub rows-joined : e ≤ i → (new ≡ newAdds engine T₀ (cellContacts δ u v (cellOf cell))) × (T ≡ run engine T₀ (cellContacts δ u v (cellOf cell)))
-  rows-joined h = joined-end (w .joined) (none-left δ u v cell (w .loop) h)
+  pub rows-added : e ≤ i → (new ≡ newAdds engine T₀ (cellContacts δ u v (cellOf cell))) × (T ≡ run engine T₀ (cellContacts δ u v (cellOf cell)))
+  rows-added h = added-end (w .added) (none-left δ u v cell (w .loop) h)
 
 -- ---- contacts by number
 
@@ -210,31 +210,31 @@ module _ (f : ℕ → List Contact) (n : ℕ) where
   lists-none k h = let e : n - k ≡ 0 = omega arith in ap (flat (λ j. f (k + j))) e
 
 -- The first k of n lists are added.
-pub record JoinedLists (f : ℕ → List Contact) (n : ℕ) (T₀ T : List ℕ) (new k : ℕ) : Type 0 where
+pub record AddedLists (f : ℕ → List Contact) (n : ℕ) (T₀ T : List ℕ) (new k : ℕ) : Type 0 where
   pub below : k ≤ n
-  pub joined : Joined (flat f n) (listsLeft f n k) T₀ T new
+  pub added : AddedSoFar (flat f n) (listsLeft f n k) T₀ T new
 
 -- No list is added yet.
-pub lists-start : (f : ℕ → List Contact) (n : ℕ) (T : List ℕ) → JoinedLists f n T T 0 0
-lists-start f n T = record { below = omega arith; joined = joined-start _ _ T (lists-all f n) }
+pub lists-start : (f : ℕ → List Contact) (n : ℕ) (T : List ℕ) → AddedLists f n T T 0 0
+lists-start f n T = record { below = omega arith; added = added-start _ _ T (lists-all f n) }
 
-module _ {f : ℕ → List Contact} {n : ℕ} {T₀ T : List ℕ} {new k : ℕ} (w : JoinedLists f n T₀ T new k) where
+module _ {f : ℕ → List Contact} {n : ℕ} {T₀ T : List ℕ} {new k : ℕ} (w : AddedLists f n T₀ T new k) where
   module _ (h : k < n) {a : List Contact} (e : a ≡ f k) where
     -- The next list a can be added.
     pub list-addable : Addable T₀ (flat f n) → Addable T a
-    list-addable g = rw e (joined-addable (w .joined) _ _ (lists-next f n k h) g)
+    list-addable g = rw e (added-addable (w .added) _ _ (lists-next f n k h) g)
 
     module _ {r : ℕ} (p : r ≡ newAdds engine T a) where
       pub list-few : Addable T₀ (flat f n) → new + r ≤ maxContacts
-      list-few = joined-few (w .joined) _ _ (lists-next f n k h) (p ∙ ap (newAdds engine T) e)
+      list-few = added-few (w .added) _ _ (lists-next f n k h) (p ∙ ap (newAdds engine T) e)
 
       -- It is added.
-      pub list-turn : {U : List ℕ} → U ≡ run engine T a → JoinedLists f n T₀ U (new + r) (k + 1)
-      list-turn q = record { below = omega arith; joined = joined-turn (w .joined) _ _ (lists-next f n k h) (p ∙ ap (newAdds engine T) e) (q ∙ ap (run engine T) e) }
+      pub list-turn : {U : List ℕ} → U ≡ run engine T a → AddedLists f n T₀ U (new + r) (k + 1)
+      list-turn q = record { below = omega arith; added = added-turn (w .added) _ _ (lists-next f n k h) (p ∙ ap (newAdds engine T) e) (q ∙ ap (run engine T) e) }
 
   -- All lists are added.
-  pub lists-joined : n ≤ k → (new ≡ newAdds engine T₀ (flat f n)) × (T ≡ run engine T₀ (flat f n))
-  lists-joined h = joined-end (w .joined) (lists-none f n k h)
+  pub lists-added : n ≤ k → (new ≡ newAdds engine T₀ (flat f n)) × (T ≡ run engine T₀ (flat f n))
+  lists-added h = added-end (w .added) (lists-none f n k h)
 
 -- ---- the second table
 
@@ -244,23 +244,23 @@ unfolding contactsBetween cellsOf
 between-lent S u v δ lent e f = ap₂ (λ (d : ℕ) (l : List ℕ). cellContacts d u v (cellOf l)) e f
 
 -- The contacts from u to each of n animals.
-unfoldable pub contactsFrom : List ℕ → ℕ → ℕ → List Contact
-contactsFrom S n u = flat (contactsBetween S u) n
+unfoldable pub contactsLeaving : List ℕ → ℕ → ℕ → List Contact
+contactsLeaving S n u = flat (contactsBetween S u) n
 
-pub from-are : (S : List ℕ) (n u : ℕ) → flat (contactsBetween S u) n ≡ contactsFrom S n u
-unfolding contactsFrom
-from-are S n u = refl
+pub leaving-are : (S : List ℕ) (n u : ℕ) → flat (contactsBetween S u) n ≡ contactsLeaving S n u
+unfolding contactsLeaving
+leaving-are S n u = refl
 
 -- ---- two tables that can be joined, n being the second's number of animals as it was read
 
 module _ (F S : List ℕ) (j : Joins F S) (n : ℕ) (e : n ≡ animals S) where
   -- The second's contacts, cell by cell.
-  cells-are : flat (contactsFrom S n) n ≡ tableContacts S
-  unfolding contactsFrom contactsBetween tableContacts
+  cells-are : flat (contactsLeaving S n) n ≡ tableContacts S
+  unfolding contactsLeaving contactsBetween tableContacts
   cells-are = ap (λ (m : ℕ). flat (λ u. flat (λ v. cellContacts (carry S) u v (cellsOf S u v)) m) m) e
 
   -- They can be added to the first.
-  pub cells-addable : Addable F (flat (contactsFrom S n) n)
+  pub cells-addable : Addable F (flat (contactsLeaving S n) n)
   cells-addable =
       rw cells-are
       (record {
@@ -273,7 +273,7 @@ module _ (F S : List ℕ) (j : Joins F S) (n : ℕ) (e : n ≡ animals S) where
   same-legal k = let i = table-iff S (j .second) k in (λ m. (i .0 (m .0), m .1), λ m. (i .1 (m .0), m .1))
 
   -- Added in this order they leave the same table as in that of a log, and as many are new.
-  pub cells-joined : {new : ℕ} {T : List ℕ} → (new ≡ newAdds engine F (flat (contactsFrom S n) n)) × (T ≡ run engine F (flat (contactsFrom S n) n))
+  pub cells-joined : {new : ℕ} {T : List ℕ} → (new ≡ newAdds engine F (flat (contactsLeaving S n) n)) × (T ≡ run engine F (flat (contactsLeaving S n) n))
       → (new ≡ newAdds engine F (heldContacts S)) × (T ≡ run engine F (heldContacts S))
   cells-joined h = (
     h .0 ∙ ap (newAdds engine F) cells-are ∙ same-number F (j .first) (tableContacts S) (heldContacts S) same-legal,
