@@ -24,7 +24,7 @@ use Rattle.rules.specs.Fresh.{Fresh}
 use Rattle.rules.specs.CallLists.{engine, run, newAdds}
 use Rattle.rules.specs.Orders.{Earlier}
 use Rattle.rules.specs.Joining.{ensureSameOpening, joinRefusal, joinAnswer, joinLeaves}
-use Rattle.rules.specs.JoinRule.{JoinedAnew, JoinRule}
+use Rattle.rules.specs.JoinRule.{JoinCounts, JoinRule}
 use Rattle.rules.proofs.Judged.{ensure-iff, unless-cases}
 use Rattle.rules.proofs.Asked.{valid-behind}
 use Rattle.rules.proofs.Laid.{laid-first}
@@ -152,46 +152,46 @@ module _ (F S : List ℕ) (j : Joins F S) where
       (λ m. ⊎-elim inl (λ h. inr (h .0)) (r .0 m), ⊎-elim (λ m. r .1 (inl m)) (λ m. r .1 (inr (m, joins-legal k m))))
 
   -- The second's contacts that the first does not hold.
-  abbrev anew : List Contact
-  anew = without (heldContacts F) (heldContacts S)
+  abbrev notHeld : List Contact
+  notHeld = without (heldContacts F) (heldContacts S)
 
   -- They are those by which the first then holds more.
-  anew-number : newAdds engine F (heldContacts S) ≡ length anew
-  anew-number = omega (arith, run-count (heldContacts S) F (j .first), length-append (heldContacts F) anew, most, least)
+  not-held-number : newAdds engine F (heldContacts S) ≡ length notHeld
+  not-held-number = omega (arith, run-count (heldContacts S) F (j .first), length-append (heldContacts F) notHeld, most, least)
     where
       after : List Contact
       after = heldContacts (run engine F (heldContacts S))
 
-      iff : (k : Contact) → List·Memᴰ k anew ↔ (List·Memᴰ k (heldContacts S) × (¬ List·Memᴰ k (heldContacts F)))
+      iff : (k : Contact) → List·Memᴰ k notHeld ↔ (List·Memᴰ k (heldContacts S) × (¬ List·Memᴰ k (heldContacts F)))
       iff = without-iff (heldContacts F) (heldContacts S)
 
-      once : Once (heldContacts F ++ anew)
+      once : Once (heldContacts F ++ notHeld)
       once =
-          once-append (heldContacts F) anew (held-once F)
-          (sorted-once Earlier earlier-irreflexive earlier-transitive anew (without-sorted (heldContacts F) (heldContacts S) (held-sorted S))) (λ k p q. iff k .0 q .1 p)
+          once-append (heldContacts F) notHeld (held-once F)
+          (sorted-once Earlier earlier-irreflexive earlier-transitive notHeld (without-sorted (heldContacts F) (heldContacts S) (held-sorted S))) (λ k p q. iff k .0 q .1 p)
 
-      split : (k : Contact) {b : Bool} → Outcome (List·Memᴰ k (heldContacts F)) (¬ List·Memᴰ k (heldContacts F)) b → List·Memᴰ k (heldContacts S) → List·Memᴰ k (heldContacts F ++ anew)
-      split k (holds h) m = Memᴰ·append-left anew h
+      split : (k : Contact) {b : Bool} → Outcome (List·Memᴰ k (heldContacts F)) (¬ List·Memᴰ k (heldContacts F)) b → List·Memᴰ k (heldContacts S) → List·Memᴰ k (heldContacts F ++ notHeld)
+      split k (holds h) m = Memᴰ·append-left notHeld h
       split k (fails d) m = Memᴰ·append-right (heldContacts F) (iff k .1 (m, d))
 
-      most : length after ≤ length (heldContacts F ++ anew)
-      most = once-short after (heldContacts F ++ anew) (held-once _) (λ k m. ⊎-elim (Memᴰ·append-left anew) (split k (comesIn-outcome k (heldContacts F))) (joined-held k .0 m))
+      most : length after ≤ length (heldContacts F ++ notHeld)
+      most = once-short after (heldContacts F ++ notHeld) (held-once _) (λ k m. ⊎-elim (Memᴰ·append-left notHeld) (split k (comesIn-outcome k (heldContacts F))) (joined-held k .0 m))
 
-      least : length (heldContacts F ++ anew) ≤ length after
-      least = once-short (heldContacts F ++ anew) after once (λ k m. joined-held k .1 (⊎-elim inl (λ q. inr (iff k .0 q .0)) (List·Memᴰ·append-cases (heldContacts F) m)))
+      least : length (heldContacts F ++ notHeld) ≤ length after
+      least = once-short (heldContacts F ++ notHeld) after once (λ k m. joined-held k .1 (⊎-elim inl (λ q. inr (iff k .0 q .0)) (List·Memᴰ·append-cases (heldContacts F) m)))
 
-  joined-anew : JoinedAnew F S (λ k. List·Memᴰ k (heldContacts S) × (¬ List·Memᴰ k (heldContacts F)))
-  joined-anew =
+  joined-counts : JoinCounts F S (λ k. List·Memᴰ k (heldContacts S) × (¬ List·Memᴰ k (heldContacts F)))
+  joined-counts =
       record {
-        contacts = anew;
+        contacts = notHeld;
         once = without-sorted (heldContacts F) (heldContacts S) (held-sorted S);
         those = without-iff (heldContacts F) (heldContacts S);
-        number = joined-answer F S j ∙ ap Joined anew-number;
+        number = joined-answer F S j ∙ ap Joined not-held-number;
       }
 
 new-to-first : (F S : List ℕ) → ValidTable F → ValidTable S → getD F 0 0 ≡ getD S 0 0
-    → JoinedAnew F S (λ k. List·Memᴰ k (heldContacts S) × (¬ List·Memᴰ k (heldContacts F)))
-new-to-first F S p q e = joined-anew F S (record { first = p; second = q; opening = e })
+    → JoinCounts F S (λ k. List·Memᴰ k (heldContacts S) × (¬ List·Memᴰ k (heldContacts F)))
+new-to-first F S p q e = joined-counts F S (record { first = p; second = q; opening = e })
 
 both-held : (F S : List ℕ) → ValidTable F → ValidTable S → getD F 0 0 ≡ getD S 0 0
     → (k : Contact) → List·Memᴰ k (heldContacts (joinLeaves F S)) ↔ (List·Memᴰ k (heldContacts F) ⊎ List·Memᴰ k (heldContacts S))
@@ -221,9 +221,9 @@ module _ {n τ δ : ℕ} {P Q : Contacts} {F S : List ℕ} (f : Fresh n τ δ P 
   union-fresh : Fresh n τ δ (Union P Q) (joinLeaves F S)
   union-fresh = fresh-map (first-fresh f fresh-joins) (λ k. (⊎-elim inl (λ m. inr (fresh-held g k .0 m)), ⊎-elim inl (λ q. inr (fresh-held g k .1 q))))
 
-  new-to-set : JoinedAnew F S (λ k. Q k × (¬ P k))
+  new-to-set : JoinCounts F S (λ k. Q k × (¬ P k))
   new-to-set =
-      let a = joined-anew F S fresh-joins in
+      let a = joined-counts F S fresh-joins in
       record {
         contacts = a .contacts;
         once = a .once;

@@ -49,7 +49,7 @@ pub record Demand1 : Type 0 where
       → countedTally t T k ≡ record { new = t .new; known = t .known; refused = t .refused + 1 }
   pub counted-full : (t : Tally) (T : List ℕ) (k : Contact) → (countedAnswer t T k ≡ AddRefused TallyFull) ↔ (fullTally ≤ t .new + t .known + t .refused)
   pub counted-full-kept : (t : Tally) (T : List ℕ) (k : Contact) → countedAnswer t T k ≡ AddRefused TallyFull → countedTally t T k ≡ t
-  -- The other questions only read; a refused question for the animals reached gives an empty set.
+  -- The other questions only read, and so does a join with its second table; a refused question for the animals reached gives an empty set.
   pub reached-empty : (T : List ℕ) (u first last : ℕ) (r : Refusal) → reachedAnswer T u first last ≡ SetRefused r
       → (reachedWords T u first last ≡ replicate 8 0) × (reachedCount T u first last ≡ 0)
   -- The memory lent keeps its ends.

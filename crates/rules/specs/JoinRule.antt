@@ -16,7 +16,7 @@ use Rattle.rules.specs.Orders.{Sorted, Earlier}
 use Rattle.rules.specs.Joining.{joinAnswer, joinLeaves}
 
 -- The join of S into F is answered with the number of the contacts in P, each counted once.
-pub record JoinedAnew (F S : List ℕ) (P : Contacts) : Type 0 where
+pub record JoinCounts (F S : List ℕ) (P : Contacts) : Type 0 where
   pub contacts : List Contact
   pub once : Sorted Earlier contacts
   pub those : (k : Contact) → List·Memᴰ k contacts ↔ P k
@@ -37,9 +37,9 @@ pub record JoinRule : Type 1 where
   pub either-way : (n τ δ : ℕ) (P Q : Contacts) (F S : List ℕ) → Fresh n τ δ P F → Fresh n τ δ Q S → joinLeaves F S ≡ joinLeaves S F
   -- The number answered is that of the contacts new to the first: on any two tables that are joined those of the second that the first did not hold,
   pub new-to-first : (F S : List ℕ) → ValidTable F → ValidTable S → getD F 0 0 ≡ getD S 0 0
-      → JoinedAnew F S (λ k. List·Memᴰ k (heldContacts S) × (¬ List·Memᴰ k (heldContacts F)))
+      → JoinCounts F S (λ k. List·Memᴰ k (heldContacts S) × (¬ List·Memᴰ k (heldContacts F)))
   -- on tables built by adds those in the second's set and not in the first's.
-  pub new-to-set : (n τ δ : ℕ) (P Q : Contacts) (F S : List ℕ) → Fresh n τ δ P F → Fresh n τ δ Q S → JoinedAnew F S (λ k. Q k × (¬ P k))
+  pub new-to-set : (n τ δ : ℕ) (P Q : Contacts) (F S : List ℕ) → Fresh n τ δ P F → Fresh n τ δ Q S → JoinCounts F S (λ k. Q k × (¬ P k))
   -- On any two tables that are joined the first then holds its own contacts and the second's.
   pub both-held : (F S : List ℕ) → ValidTable F → ValidTable S → getD F 0 0 ≡ getD S 0 0
       → (k : Contact) → List·Memᴰ k (heldContacts (joinLeaves F S)) ↔ (List·Memᴰ k (heldContacts F) ⊎ List·Memᴰ k (heldContacts S))

@@ -22,9 +22,9 @@ const MOST: usize = 9;
 /// The adds timed singly in one lap last about so many seconds together.
 const SINGLY: f64 = 0.5;
 /// The adds timed singly in one lap are at most so many.
-const MOST_SINGLY: f64 = 200.0;
-/// Each of them is the shortest of so many.
-const TIMES: usize = 5;
+const MOST_SINGLY: f64 = 2_000.0;
+/// One in so many of these times is left out at either end, before their mean is taken.
+const ENDS: usize = 50;
 /// The part of the check's time below which a difference of two times tells nothing.
 const GRAIN: f64 = 0.01;
 /// The doubt about the ratio to adds made singly from which on nothing is told.
@@ -48,7 +48,7 @@ struct Lap {
 }
 
 /// The engine's table and Rust's over one half of the contacts, the table over the other half with its contacts in log
-/// order, the number of those that are new, and room for one table more.
+/// order, and the number of those that are new.
 pub struct Joining {
     opening: Opening,
     log: Vec<u32>,
@@ -57,7 +57,6 @@ pub struct Joining {
     second: Vec<u32>,
     contacts: Vec<Contact>,
     new: u32,
-    before: Vec<u32>,
 }
 
 impl Joining {
@@ -75,7 +74,6 @@ impl Joining {
             second: vec![1; length],
             new: joined.difference(&held).count() as u32,
             contacts: joined.into_iter().collect(),
-            before: Vec::new(),
         };
         let log = words::log(opening, joining.contacts.iter().copied());
         ticks::load(&log, &mut joining.second);
@@ -94,7 +92,7 @@ impl Joining {
                 rust: f64::NAN,
             };
         }
-        let many = SINGLY / (5.0 * TIMES as f64 * trial.check);
+        let many = SINGLY / (4.0 * trial.check);
         let step = (number / many.clamp(1.0, MOST_SINGLY)).ceil() as usize;
         let (mut singly, mut rust) = (Vec::new(), Vec::new());
         let start = Instant::now();
@@ -161,28 +159,30 @@ impl Joining {
                 rust.push(timed(add).1.as_secs_f64());
             }
         }
-        let all = |times: &[f64]| {
-            let mean = times.iter().sum::<f64>() / times.len() as f64;
-            let lasted = mean * self.contacts.len() as f64;
+        let all = |times: Vec<f64>| {
+            let lasted = inner_mean(times) * self.contacts.len() as f64;
             Some(lasted).filter(|&time| time > 0.0).unwrap_or(f64::NAN)
         };
-        (all(&rust), all(&singly))
+        (all(rust), all(singly))
     }
 
-    /// The seconds of the shortest of some adds of the contact to the same table, less the shortest of the checks about them.
+    /// The seconds of an add of the contact, whose own check is taken to last as long as the mean of the checks before and
+    /// after.
     fn single_add(&mut self, contact: Contact) -> f64 {
         let (u, v, t) = (contact.from, contact.to, contact.tick);
-        let (mut shortest, mut checked) = (Duration::MAX, Duration::MAX);
-        self.before.clone_from(&self.other);
-        for _ in 0..TIMES {
-            self.other.copy_from_slice(&self.before);
-            check(&mut self.other);
-            checked = checked.min(check(&mut self.other));
-            let (answer, lasted) = timed(|| herd::add(&mut self.other, u, v, t));
-            assert!(!matches!(answer, Added::Refused(_)), "{answer:?}");
-            shortest = shortest.min(lasted);
-            checked = checked.min(check(&mut self.other));
-        }
-        shortest.as_secs_f64() - checked.as_secs_f64()
+        check(&mut self.other);
+        let before = check(&mut self.other);
+        let (answer, whole) = timed(|| herd::add(&mut self.other, u, v, t));
+        assert!(!matches!(answer, Added::Refused(_)), "{answer:?}");
+        let after = check(&mut self.other);
+        whole.as_secs_f64() - (before + after).as_secs_f64() / 2.0
     }
+}
+
+/// The mean of the times, without the shortest and the longest of them.
+fn inner_mean(mut times: Vec<f64>) -> f64 {
+    times.sort_by(f64::total_cmp);
+    let ends = times.len() / ENDS;
+    let inner = &times[ends..times.len() - ends];
+    inner.iter().sum::<f64>() / inner.len() as f64
 }

@@ -7,6 +7,9 @@ use herd::testing::words::{self, Contact, Opening};
 /// The seed of every log and question.
 pub const SEED: u64 = 8;
 
+/// The workload that stands for a season of a herd.
+pub const SEASON: &str = "sparse season";
+
 /// A table's numbers and the contacts of its log.
 pub struct Workload {
     pub name: &'static str,
@@ -59,7 +62,7 @@ pub fn all() -> Vec<Workload> {
     vec![
         Workload::complete("complete, 32 animals", Opening::new(32, 64, 1)),
         Workload::complete("complete, 100 animals", Opening::new(100, 10, 1)),
-        Workload::drawn("sparse season", Opening::new(128, 512, 4), 6_000),
+        Workload::drawn(SEASON, Opening::new(128, 512, 4), 6_000),
         Workload::drawn("dense pen", Opening::new(24, 256, 3), 60_000),
         largest(200),
     ]
