@@ -69,7 +69,7 @@ reach-map f (step u v t g c r) = step u v t g (f (contact u v t) c) (reach-map f
 module _ {S : Contacts} {δ y b : ℕ} where
   pub journey-reach : {x a : ℕ} → JourneyTo S δ y b x a → Reach empty S δ y b x a
   journey-reach {x} {a} (single c e) = step x y a (stay refl (le-refl a)) c (direct {a = a + δ} (stay refl (omega arith)))
-  journey-reach {x} {a} (onward z s c h j) = step x z a (stay refl (le-refl a)) c (reach-wait (a + δ) h (journey-reach j))
+  journey-reach {x} {a} (onward z s c h j) = step x z a (stay refl (le-refl a)) c (reach-wait (a + δ) (omega arith) (journey-reach j))
 
   -- A journey takes at least the carry time.
   pub journey-carries : {x a : ℕ} → JourneyTo S δ y b x a → a + δ ≤ b
@@ -96,7 +96,7 @@ reach-split {S} {δ} {y} {b} {x} {a} (step u v t g c r) = go (reach-split r)
 
     go : (v ≡ y) ⊎ Within S δ v y (interval (t + δ) b) → (x ≡ y) ⊎ Within S δ x y (interval a b)
     go (inl e) = inr (interval t (t + δ), single (subst (λ w. S (contact x w t)) e from-x) refl, (stays g .1, reach-le empty-forward r))
-    go (inr w) = inr (interval t (w .0 .arrival), onward v (w .0 .departure) from-x (w .2 .0) (w .1), (stays g .1, w .2 .1))
+    go (inr w) = inr (interval t (w .0 .arrival), onward v (w .0 .departure) from-x (omega (arith, w .2)) (w .1), (stays g .1, w .2 .1))
 
 -- Between different animals, reaching is a journey within the interval.
 pub reach-within : {S : Contacts} {δ y b x a : ℕ} → x ≢ y → Reach empty S δ y b x a → Within S δ x y (interval a b)
