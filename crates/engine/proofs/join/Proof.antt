@@ -1,6 +1,7 @@
 -- `join` meets its contract: each return is a case of the rule.
-use mathlib.Core.Path.{_≡_, refl}
+use mathlib.Core.Path.{_≡_, refl, ap}
 use mathlib.Core.Option.{none}
+use Rattle.rules.specs.declared.JoinAnswer.the-variants.{Joined}
 use Rattle.rules.specs.Joining.{joinRefusal, joinAnswer, joinLeaves}
 use Rattle.rules.proofs.Joining.{join-iff}
 use Rattle.checks.proofs.Judged.{verdict-refused, verdict-passed}
@@ -28,7 +29,7 @@ unfolding joinAnswer joinLeaves
 returns-2 c =
     let l = c .before .before in
     let e = passed (l .before) in
-    (rw (e, l .join-held .ensures .0) refl, rw e (l .join-held .ensures .1))
+    (rw e (ap Joined (l .join-held .ensures .0)), rw e (l .join-held .ensures .1))
 
 pub join-spec : {M : Type 1} → statement M
 join-spec =
