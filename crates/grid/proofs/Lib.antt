@@ -3,3 +3,4 @@ pub mod Numbered
 pub mod Reading
 pub mod Walk
 pub mod Flat
+pub mod Steps

@@ -107,6 +107,10 @@ unfolding cellIn
 cell-from n s x y body h = part-of-part s n x y body h
 
 module _ {P : List ℕ → Type 0} {n s : ℕ} {body : List ℕ} (g : Grid P n s body) where
+  -- The number of cells is within its limit.
+  pub grid-few : n * n ≤ maxCells
+  grid-few = mul-le-mul (g .few) (g .few)
+
   -- The words lent of cell (x, y) have the property.
   pub grid-lent : (x y : ℕ) → x < n → y < n → {lent : List ℕ} → lent ≡ cellIn n s body x y → P lent
   grid-lent x y h k e = subst P (sym e) (g .every x y h k)

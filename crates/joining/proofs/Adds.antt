@@ -3,8 +3,7 @@ use mathlib.Core.Path.{_≡_, refl, sym, ap, ap₂, _∙_, subst}
 use mathlib.Core.Bool.{Bool, true, false, cond}
 use mathlib.Core.Option.{none}
 use mathlib.Core.List.{List, [], _∷_, _++_, append-nil, append-assoc, List·Memᴰ, List·Memᴰ·head, Memᴰ·append-left, Memᴰ·append-right}
-use Prim.Native.Nat.{ℕ, _+_, _-_, _≤_, _<_}
-use native.Mathlib.Nat.{add-zero, add-assoc}
+use Prim.Native.Nat.{ℕ, _+_, _-_, _*_, _≤_, _<_}
 use native.Mathlib.Omega.{arith}
 use lib.ListN.{length, getD, length-append}
 use Rattle.journeys.specs.Journey.{Contact, Same}
@@ -12,23 +11,26 @@ use Rattle.words.specs.Words.{animalsOf, ticksOf}
 use Rattle.rules.specs.declared.AddAnswer.{AddAnswer}
 use Rattle.rules.specs.declared.AddAnswer.the-variants.{New, Known, Refused}
 use Rattle.rules.specs.Limits.{maxContacts}
-use Rattle.rules.specs.Folds.{flat}
-use Rattle.rules.specs.Layout.{animals, ticks, carry, cellAt, cellOf, cellsOf}
+use Rattle.rules.specs.Layout.{animals, ticks, cellOf, cellsOf}
 use Rattle.rules.specs.Adding.{Legal, cellsChanged, addRefusal, addedCells, holds, addAnswer, addLeaves}
 use Rattle.rules.specs.Logs.{heldContacts}
 use Rattle.rules.specs.CallLists.{engine, run, newOne, newAdds, LegalOf}
-use Rattle.rules.proofs.Folds.{flat-same}
 use Rattle.rules.proofs.Judged.{add-iff}
 use Rattle.rules.proofs.Joining.{Joins, joins-legal}
 use Rattle.rules.proofs.AnyOrder.{run-first, run-valid, run-length, run-same, same-number}
-use Rattle.grid.proofs.Numbered.{flat-add}
+use Rattle.grid.specs.declared.CellPlace.{CellPlace}
+use Rattle.grid.specs.Cells.{cellIn}
+use Rattle.grid.specs.Steps.{firstCell, nextCell}
+use Rattle.grid.proofs.Steps.{Stepped, stepped-start, stepped-turn}
+use Rattle.tables.proofs.TableRead.{Read}
 use Rattle.cells.specs.Stored.{rowsIn, Stored}
 use Rattle.cells.proofs.Lent.{count-fits}
 use Rattle.cells.proofs.RowLoop.{RowLoop, rows-begin, rows-turn}
-use Rattle.logs.specs.Ordered.{cellContacts, tableContacts}
-use Rattle.logs.proofs.Passes.{contactsOf, contactsLeft, all-left, none-left, next-left}
+use Rattle.logs.specs.Ordered.{cellContacts, tableContacts, gridContacts}
+use Rattle.logs.proofs.Passes.{contactsOf, contactsLeft, all-left, none-left, next-left, cellsLeft, cells-all, cells-next, cells-none}
 use Rattle.logs.proofs.TableContacts.{table-iff, table-few}
-use Rattle.joining.specs.Contacts.{Addable, contactsBetween}
+use Rattle.logs.proofs.WholeLog.{read-contacts}
+use Rattle.joining.specs.Contacts.{Addable}
 
 -- ---- one list of contacts after another
 
@@ -186,81 +188,48 @@ module _ {δ u v : ℕ} {cell T₀ T : List ℕ} {new e i : ℕ} (w : AddedRows 
   pub rows-added : e ≤ i → (new ≡ newAdds engine T₀ (cellContacts δ u v (cellOf cell))) × (T ≡ run engine T₀ (cellContacts δ u v (cellOf cell)))
   rows-added h = added-end (w .added) (none-left δ u v cell (w .loop) h)
 
--- ---- contacts by number
+-- ---- all cells
 
--- Those of the lists f from k on, of n.
-unfoldable pub listsLeft : (ℕ → List Contact) → ℕ → ℕ → List Contact
-listsLeft f n k = flat (λ j. f (k + j)) (n - k)
+-- The contacts of the first k of n × n cells of s words are added, and c is the next cell.
+pub record AddedCells (δ n s : ℕ) (body T₀ T : List ℕ) (new : ℕ) (c : CellPlace) (k : ℕ) : Type 0 where
+  pub stepped : Stepped n s c k
+  pub added : AddedSoFar (gridContacts δ n s body) (cellsLeft δ n s body c (n * n - k)) T₀ T new
 
-module _ (f : ℕ → List Contact) (n : ℕ) where
-  lists-all : listsLeft f n 0 ≡ flat f n
-  unfolding listsLeft
-  lists-all = let e : n - 0 ≡ n = omega arith in ap (flat (λ j. f (0 + j))) e ∙ flat-same _ f n (λ j h. let q : 0 + j ≡ j = omega arith in ap f q)
+-- No cell is passed yet.
+pub cells-start : {δ n s : ℕ} (body T : List ℕ) {c : CellPlace} → c ≡ firstCell → AddedCells δ n s body T T 0 c 0
+cells-start {δ} {n} {s} body T e = record { stepped = stepped-start n s e; added = added-start _ _ T (cells-all δ n s body e) }
 
-  lists-next : (k : ℕ) → k < n → listsLeft f n k ≡ f k ++ listsLeft f n (k + 1)
-  unfolding listsLeft flat
-  lists-next k h =
-      let e : n - k ≡ 1 + (n - (k + 1)) = omega arith in
-      ap (flat (λ j. f (k + j))) e
-      ∙ flat-add (λ j. f (k + j)) 1 (n - (k + 1))
-      ∙ ap₂ _++_ (ap f (add-zero k)) (flat-same _ _ (n - (k + 1)) (λ j o. ap f (sym (add-assoc k 1 j))))
+module _ {δ n s : ℕ} {body T₀ T : List ℕ} {new : ℕ} {c : CellPlace} {k : ℕ} (w : AddedCells δ n s body T₀ T new c k) where
+  module _ (h : k < n * n) (lent : List ℕ) (e : lent ≡ cellIn n s body (c .from) (c .to)) where
+    -- The contacts of the next cell, as it is lent.
+    abbrev these : List Contact
+    these = cellContacts δ (c .from) (c .to) (cellOf lent)
 
-  lists-none : (k : ℕ) → n ≤ k → listsLeft f n k ≡ []
-  unfolding listsLeft flat
-  lists-none k h = let e : n - k ≡ 0 = omega arith in ap (flat (λ j. f (k + j))) e
+    -- They can be added.
+    pub cell-addable : Addable T₀ (gridContacts δ n s body) → Addable T these
+    cell-addable = added-addable (w .added) _ _ (cells-next δ n s body c k h refl lent e)
 
--- The first k of n lists are added.
-pub record AddedLists (f : ℕ → List Contact) (n : ℕ) (T₀ T : List ℕ) (new k : ℕ) : Type 0 where
-  pub below : k ≤ n
-  pub added : AddedSoFar (flat f n) (listsLeft f n k) T₀ T new
+    module _ {r : ℕ} (f : r ≡ newAdds engine T these) where
+      pub cell-few : Addable T₀ (gridContacts δ n s body) → new + r ≤ maxContacts
+      cell-few = added-few (w .added) _ _ (cells-next δ n s body c k h refl lent e) f
 
--- No list is added yet.
-pub lists-start : (f : ℕ → List Contact) (n : ℕ) (T : List ℕ) → AddedLists f n T T 0 0
-lists-start f n T = record { below = omega arith; added = added-start _ _ T (lists-all f n) }
+      -- They are added.
+      pub cell-turn : {d : CellPlace} → d ≡ nextCell n s c → {U : List ℕ} → U ≡ run engine T these → AddedCells δ n s body T₀ U (new + r) d (k + 1)
+      cell-turn g q = record { stepped = stepped-turn (w .stepped) g; added = added-turn (w .added) _ _ (cells-next δ n s body c k h g lent e) f q }
 
-module _ {f : ℕ → List Contact} {n : ℕ} {T₀ T : List ℕ} {new k : ℕ} (w : AddedLists f n T₀ T new k) where
-  module _ (h : k < n) {a : List Contact} (e : a ≡ f k) where
-    -- The next list a can be added.
-    pub list-addable : Addable T₀ (flat f n) → Addable T a
-    list-addable g = rw e (added-addable (w .added) _ _ (lists-next f n k h) g)
+  -- All cells are passed.
+  pub cells-added : n * n ≤ k → (new ≡ newAdds engine T₀ (gridContacts δ n s body)) × (T ≡ run engine T₀ (gridContacts δ n s body))
+  cells-added h = added-end (w .added) (cells-none δ n s body c k h)
 
-    module _ {r : ℕ} (p : r ≡ newAdds engine T a) where
-      pub list-few : Addable T₀ (flat f n) → new + r ≤ maxContacts
-      list-few = added-few (w .added) _ _ (lists-next f n k h) (p ∙ ap (newAdds engine T) e)
+-- ---- two tables that can be joined, the second by the numbers read off it
 
-      -- It is added.
-      pub list-turn : {U : List ℕ} → U ≡ run engine T a → AddedLists f n T₀ U (new + r) (k + 1)
-      list-turn q = record { below = omega arith; added = added-turn (w .added) _ _ (lists-next f n k h) (p ∙ ap (newAdds engine T) e) (q ∙ ap (run engine T) e) }
-
-  -- All lists are added.
-  pub lists-added : n ≤ k → (new ≡ newAdds engine T₀ (flat f n)) × (T ≡ run engine T₀ (flat f n))
-  lists-added h = added-end (w .added) (lists-none f n k h)
-
--- ---- the second table
-
--- The contacts of a cell as it is lent.
-pub between-lent : (S : List ℕ) (u v δ : ℕ) (lent : List ℕ) → δ ≡ carry S → lent ≡ cellAt (animals S) (ticks S) S u v → cellContacts δ u v (cellOf lent) ≡ contactsBetween S u v
-unfolding contactsBetween cellsOf
-between-lent S u v δ lent e f = ap₂ (λ (d : ℕ) (l : List ℕ). cellContacts d u v (cellOf l)) e f
-
--- The contacts from u to each of n animals.
-unfoldable pub contactsLeaving : List ℕ → ℕ → ℕ → List Contact
-contactsLeaving S n u = flat (contactsBetween S u) n
-
-pub leaving-are : (S : List ℕ) (n u : ℕ) → flat (contactsBetween S u) n ≡ contactsLeaving S n u
-unfolding contactsLeaving
-leaving-are S n u = refl
-
--- ---- two tables that can be joined, n being the second's number of animals as it was read
-
-module _ (F S : List ℕ) (j : Joins F S) (n : ℕ) (e : n ≡ animals S) where
+module _ (F S : List ℕ) (j : Joins F S) {n s δ : ℕ} {L : List ℕ} (r : Read S n s δ L) where
   -- The second's contacts, cell by cell.
-  cells-are : flat (contactsLeaving S n) n ≡ tableContacts S
-  unfolding contactsLeaving contactsBetween tableContacts
-  cells-are = ap (λ (m : ℕ). flat (λ u. flat (λ v. cellContacts (carry S) u v (cellsOf S u v)) m) m) e
+  cells-are : gridContacts δ n s L ≡ tableContacts S
+  cells-are = read-contacts S (j .second) r
 
   -- They can be added to the first.
-  pub cells-addable : Addable F (flat (contactsLeaving S n) n)
+  pub cells-addable : Addable F (gridContacts δ n s L)
   cells-addable =
       rw cells-are
       (record {
@@ -273,7 +242,7 @@ module _ (F S : List ℕ) (j : Joins F S) (n : ℕ) (e : n ≡ animals S) where
   same-legal k = let i = table-iff S (j .second) k in (λ m. (i .0 (m .0), m .1), λ m. (i .1 (m .0), m .1))
 
   -- Added in this order they leave the same table as in that of a log, and as many are new.
-  pub cells-joined : {new : ℕ} {T : List ℕ} → (new ≡ newAdds engine F (flat (contactsLeaving S n) n)) × (T ≡ run engine F (flat (contactsLeaving S n) n))
+  pub cells-joined : {new : ℕ} {T : List ℕ} → (new ≡ newAdds engine F (gridContacts δ n s L)) × (T ≡ run engine F (gridContacts δ n s L))
       → (new ≡ newAdds engine F (heldContacts S)) × (T ≡ run engine F (heldContacts S))
   cells-joined h = (
     h .0 ∙ ap (newAdds engine F) cells-are ∙ same-number F (j .first) (tableContacts S) (heldContacts S) same-legal,

@@ -4,17 +4,12 @@ use mathlib.Core.List.{List, List·Memᴰ}
 use lib.ListN.{length}
 use Rattle.journeys.specs.Journey.{Contact}
 use Rattle.rules.specs.Limits.{maxContacts}
-use Rattle.rules.specs.Layout.{animals, ticks, carry, cellsOf}
+use Rattle.rules.specs.Layout.{animals, ticks}
 use Rattle.rules.specs.Checks.{ValidTable}
 use Rattle.rules.specs.Adding.{Legal}
-use Rattle.logs.specs.Ordered.{cellContacts}
 
 -- The table passes 5 and 6, and the contacts are legal for it and no more than a table can hold.
 pub record Addable (T : List ℕ) (l : List Contact) : Type 0 where
   pub valid : ValidTable T
   pub legal : (k : Contact) → List·Memᴰ k l → Legal (animals T) (ticks T) k
   pub few : length l ≤ maxContacts
-
--- The contacts of cell (u, v) of a table.
-unfoldable pub contactsBetween : List ℕ → ℕ → ℕ → List Contact
-contactsBetween T u v = cellContacts (carry T) u v (cellsOf T u v)

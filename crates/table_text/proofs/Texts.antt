@@ -1,9 +1,9 @@
 -- The texts of a cell's rows and of a table's cells, as the loops over them see them.
 use mathlib.Core.Path.{_≡_, refl, sym, ap, _∙_}
 use mathlib.Core.List.{List, [], _∷_, _++_}
-use Prim.Native.Nat.{ℕ, _+_, _*_, _≤_, _<_}
+use Prim.Native.Nat.{ℕ, _+_, _-_, _*_, _≤_, _<_}
 use native.Mathlib.Omega.{arith}
-use lib.ListN.{length, getD, drop}
+use lib.ListN.{length, getD, take, drop}
 use Rattle.journeys.specs.Cell.{Cell}
 use Rattle.words.specs.Words.{intervalOf}
 use Rattle.rules.specs.Folds.{flat}
@@ -11,14 +11,17 @@ use Rattle.rules.specs.Layout.{animals, ticks, carry, cellOf, cellsOf}
 use Rattle.rules.specs.Logs.{heldContacts}
 use Rattle.rules.specs.Sheet.{decimal, space, newline, intervalText, intervalsText, cellText, firstLine, tableText}
 use Rattle.rules.proofs.Folds.{flat-same}
-use Rattle.grid.specs.Parts.{part}
-use Rattle.cells.specs.Stored.{rowsIn}
-use Rattle.grid.proofs.Places.{cell-in, cell-from}
+use Rattle.grid.specs.declared.CellPlace.{CellPlace}
+use Rattle.grid.specs.Cells.{cellIn}
+use Rattle.grid.specs.Steps.{firstCell, nextCell}
+use Rattle.grid.proofs.Places.{cell-in}
+use Rattle.grid.proofs.Steps.{listsFrom, lists-all, lists-next, lists-none, Stepped, stepped-start, stepped-turn}
+use Rattle.cells.specs.Stored.{rowsIn, Stored}
 use Rattle.cells.proofs.RowLoop.{rowsFrom, RowLoop, rows-all, rows-next, rows-end, rows-count}
 use Rattle.tables.proofs.TableRead.{Read}
-use Rattle.cells.specs.Stored.{Stored}
 use Rattle.cells.proofs.Lent.{count-fits}
-use Rattle.table_text.specs.Lines.{cellLine, linesFrom}
+use Rattle.table_text.specs.Lines.{overwriteFront, textIn, gridText}
+use Rattle.table_text.proofs.Writing.{Writing, back, start, fits, piece, end}
 
 -- ---- the rows of a cell
 
@@ -56,26 +59,50 @@ module _ (xs : List ℕ) (u v : ℕ) (h : Stored xs) where
 
 -- ---- the cells of a table
 
--- The line of a lent cell, and the lines of the lent cells from u.
-pub cell-lent : (s u v : ℕ) (cells lent : List ℕ) → lent ≡ part s v cells → cellLine s u cells v ≡ cellText u v (cellOf lent)
-unfolding cellLine
-cell-lent s u v cells lent e = ap (λ (x : List ℕ). cellText u v (cellOf x)) (sym e)
+-- The text of the m cells from c on.
+abbrev cellsLeft : ℕ → ℕ → List ℕ → CellPlace → ℕ → List ℕ
+cellsLeft n s body c m = listsFrom n s (textIn n s body) c m
 
-pub from-lent : (s n u : ℕ) (body lent : List ℕ) → lent ≡ part (n * s) u body → linesFrom s n body u ≡ flat (cellLine s u lent) n
-unfolding linesFrom
-from-lent s n u body lent e = ap (λ (x : List ℕ). flat (cellLine s u x) n) (sym e)
+-- The text of the first k of n × n cells of s words is written, and c is the next cell.
+pub record WritingCells (n s : ℕ) (body l out : List ℕ) (c : CellPlace) (at k : ℕ) : Type 0 where
+  pub stepped : Stepped n s c k
+  pub writing : Writing (gridText n s body) l out at (cellsLeft n s body c (n * n - k))
 
--- The lines of the cells from each animal are those of the cells.
-pub table-lines : (T : List ℕ) → flat (linesFrom (ticks T + 1) (animals T) (drop 1 T)) (animals T) ≡ flat (λ u. flat (λ v. cellText u v (cellsOf T u v)) (animals T)) (animals T)
-unfolding linesFrom cellLine cellsOf
-table-lines T =
-    let n = animals T in
-    let s = ticks T + 1 in
-    flat-same _ _ n (λ u h. flat-same _ _ n (λ v k. ap (λ (l : List ℕ). cellText u v (cellOf l)) (cell-from n s u v (drop 1 T) k ∙ cell-in n (ticks T) T u v)))
+-- No cell is written yet.
+pub cells-start : (n s : ℕ) (body l : List ℕ) {c : CellPlace} → c ≡ firstCell → length (gridText n s body) ≤ length l → WritingCells n s body l l c 0 0
+unfolding gridText
+cells-start n s body l e h = record { stepped = stepped-start n s e; writing = start _ l _ (lists-all n s (textIn n s body) e) h }
 
--- The first line and the lines of the cells are the text of the table, by its numbers as they were read.
+module _ {n s : ℕ} {body l out : List ℕ} {c : CellPlace} {at k : ℕ} (w : WritingCells n s body l out c at k) where
+  module _ (h : k < n * n) (lent : List ℕ) (e : lent ≡ cellIn n s body (c .from) (c .to)) where
+    -- The text of the next cell, as it is lent, then that of the cells after it.
+    abbrev this : List ℕ
+    this = cellText (c .from) (c .to) (cellOf lent)
+
+    then-others : (d : CellPlace) → d ≡ nextCell n s c → cellsLeft n s body c (n * n - k) ≡ this ++ cellsLeft n s body d (n * n - (k + 1))
+    unfolding textIn
+    then-others d g = lists-next n s (textIn n s body) c k h g ∙ ap (λ (x : List ℕ). cellText (c .from) (c .to) (cellOf x) ++ cellsLeft n s body d (n * n - (k + 1))) (sym e)
+
+    -- It fits the rest of the list.
+    pub cell-fits : length this ≤ length (take (length out - at) (drop at out))
+    cell-fits = fits (w .writing) this _ (then-others (nextCell n s c) refl)
+
+    -- It is written.
+    pub cell-written : {d : CellPlace} → d ≡ nextCell n s c → (new : List ℕ) (r : ℕ) → r ≡ length this → new ≡ overwriteFront this (take (length out - at) (drop at out)) → WritingCells n s body l (back out at new) d (at + r) (k + 1)
+    cell-written {d} g new r i f = record { stepped = stepped-turn (w .stepped) g; writing = piece (w .writing) new this _ r (then-others d g) i f }
+
+  -- All cells are written.
+  pub cells-written : n * n ≤ k → (at ≡ length (gridText n s body)) × (out ≡ overwriteFront (gridText n s body) l)
+  cells-written h = end (w .writing) (lists-none n s (textIn n s body) c k h)
+
+-- The text of the cells in the words after the opening word is that of the table's cells.
+cells-text : (T : List ℕ) → gridText (animals T) (ticks T + 1) (drop 1 T) ≡ flat (λ u. flat (λ v. cellText u v (cellsOf T u v)) (animals T)) (animals T)
+unfolding gridText textIn cellsOf
+cells-text T = let n = animals T in flat-same _ _ n (λ u h. flat-same _ _ n (λ v k. ap (λ (l : List ℕ). cellText u v (cellOf l)) (cell-in n (ticks T) T u v)))
+
+-- The first line and the text of the cells are the text of the table, by its numbers as they were read.
 pub table-text : (T : List ℕ) {n s δ : ℕ} {L : List ℕ} (r : Read T n s δ L) (τ held : ℕ) → τ ≡ ticks T → held ≡ length (heldContacts T)
-    → firstLine n τ δ held ++ flat (linesFrom s n L) n ≡ tableText T
+    → firstLine n τ δ held ++ gridText n s L ≡ tableText T
 unfolding tableText
 table-text T r τ held e h =
-    rw (r .animals-is, r .size-is, r .carry-is, r .lent-is, e, h) (ap (λ (l : List ℕ). firstLine (animals T) (ticks T) (carry T) (length (heldContacts T)) ++ l) (table-lines T))
+    rw (r .animals-is, r .size-is, r .carry-is, r .lent-is, e, h) (ap (λ (l : List ℕ). firstLine (animals T) (ticks T) (carry T) (length (heldContacts T)) ++ l) (cells-text T))

@@ -1,17 +1,12 @@
 -- A text written piece by piece to the front of a list.
 use mathlib.Core.Path.{_≡_, refl, sym, ap, ap₂, _∙_, subst}
-use mathlib.Core.Bool.{Bool}
 use mathlib.Core.List.{List, [], _∷_, _++_, append-assoc, append-nil}
-use Prim.Native.Nat.{ℕ, zero, suc, _+_, _-_, _≤_, _<_}
-use native.Mathlib.Nat.{zero-add, le-of-eq}
-use native.Mathlib.Numerals.{add-one}
+use Prim.Native.Nat.{ℕ, _+_, _-_, _≤_}
+use native.Mathlib.Nat.{zero-add}
 use native.Mathlib.Omega.{arith}
 use lib.ListN.{length, take, drop, set, length-append, length-drop, take-append-drop, drop-of-length-le}
 use lib.Seq.{take-all, take-at, drop-at, drop-drop, sets, sets-eq, length-take-le}
-use Rattle.journeys.proofs.Tests.{Outcome, holds, fails, lt-outcome}
-use Rattle.rules.specs.Folds.{flat}
 use Rattle.rules.specs.Sheet.{decimal}
-use Rattle.grid.proofs.Reading.{Through, through-start, through-turn}
 use Rattle.table_text.specs.Lines.{overwriteFront}
 
 -- Of the text `all` the part before `at` is written, and `rest` is left; from `at` on the list is as it was.
@@ -143,59 +138,3 @@ first {all} {l} new text more k e i f h =
 pub first-number : {all l : List ℕ} (new more : List ℕ) (k b r : ℕ) → all ≡ decimal k ++ (b ∷ more) → r ≡ length (decimal k ++ (b ∷ [])) → new ≡ overwriteFront (decimal k ++ (b ∷ [])) l → length all ≤ length l
     → Writing all l new r more
 first-number new more k b r e i f h = first new (decimal k ++ (b ∷ [])) more r (sym (e ∙ then (decimal k) b more)) i f h
-
--- ---- a text of parts
-
--- A text and the next part of it.
-more : {all l out : List ℕ} {at : ℕ} (text : List ℕ) → Writing all l out at [] → length (all ++ text) ≤ length l → Writing (all ++ text) l out at text
-more {all} {l} {out} {at} text w h =
-    record {
-      whole = ap (λ (x : List ℕ). x ++ text) (sym (append-nil (take at out)) ∙ w .whole);
-      behind = w .behind;
-      kept = w .kept;
-      room = omega (arith, end w refl .0, w .kept, length-append all text);
-    }
-
-module _ (f : ℕ → List ℕ) where
-  -- The k-th part lies within the parts.
-  flat-room : (n k : ℕ) → k < n → length (flat f k ++ f k) ≤ length (flat f n)
-  unfolding flat
-  flat-room zero k h = absurd (omega arith)
-  flat-room (suc n) k h = go (lt-outcome k n) (flat-room n k)
-    where
-      go : {b : Bool} → Outcome (k < n) (n ≤ k) b → (k < n → length (flat f k ++ f k) ≤ length (flat f n)) → length (flat f k ++ f k) ≤ length (flat f n ++ f n)
-      go (holds o) r = let q = r o in omega (arith, length-append (flat f n) (f n))
-      go (fails o) r = let e : k ≡ n = omega arith in le-of-eq (ap (λ (i : ℕ). length (flat f i ++ f i)) e)
-
-  -- The next part is left.
-  next-part : {l out : List ℕ} {at : ℕ} (n k : ℕ) → Writing (flat f k) l out at [] → k < n → length (flat f n) ≤ length l → Writing (flat f (k + 1)) l out at (f k)
-  unfolding flat
-  next-part n k w h i = rw (add-one k) (more (f k) w (omega (arith, flat-room n k h)))
-
--- A loop that reads n parts of s words from a list, and writes the text f of each behind the part written: the first k are passed, and the next
--- begins at `from`.
-pub record WritingParts (f : ℕ → List ℕ) (s n : ℕ) (l out : List ℕ) (from at k : ℕ) : Type 0 where
-  pub through : Through s n from k
-  pub writing : Writing (flat f k) l out at []
-
--- No part is written yet.
-pub parts-start : (f : ℕ → List ℕ) (s n : ℕ) (l : List ℕ) → WritingParts f s n l l 0 0 0
-unfolding flat
-parts-start f s n l = record { through = through-start s n; writing = start [] l [] refl (omega arith) }
-
-module _ {f : ℕ → List ℕ} {s n : ℕ} {l out : List ℕ} {from at k : ℕ} (w : WritingParts f s n l out from at k) where
-  -- The text of the next part fits the rest of the list.
-  pub part-fits : (text : List ℕ) → f k ≡ text → k < n → length (flat f n) ≤ length l → length text ≤ length (take (length out - at) (drop at out))
-  part-fits text e t h = fits-last (next-part f n k (w .writing) t h) text e
-
-  -- It is written.
-  pub part-written : (new text : List ℕ) (r : ℕ) → f k ≡ text → k < n → length (flat f n) ≤ length l → r ≡ length text → new ≡ overwriteFront text (take (length out - at) (drop at out))
-      → WritingParts f s n l (back out at new) (from + s) (at + r) (k + 1)
-  part-written new text r e t h i g =
-      record { through = through-turn (w .through) t; writing = last (next-part f n k (w .writing) t h) new text r e i g }
-
-  -- All parts are written.
-  pub parts-end : n ≤ k → (at ≡ length (flat f n)) × (out ≡ overwriteFront (flat f n) l)
-  parts-end h =
-      let e : k ≡ n = omega (arith, w .through .below) in
-      subst (λ (i : ℕ). (at ≡ length (flat f i)) × (out ≡ overwriteFront (flat f i) l)) e (end (w .writing) refl)

@@ -1,12 +1,13 @@
-// The text of one cell.
+// The text of one cell, and of all cells of a table.
 ghost use mathlib.Core.Path.{_≡_};
 ghost use Prim.Native.Nat.{_≤_};
 ghost use lib.ListN.{length};
 ghost use Rattle.words.specs.Words.{intervalOf};
 ghost use Rattle.rules.specs.Layout.{cellOf};
 ghost use Rattle.rules.specs.Sheet.{intervalText, intervalsText, cellText};
+ghost use Rattle.grid.specs.Cells.{Grid};
 ghost use Rattle.cells.specs.Stored.{Stored};
-ghost use Rattle.table_text.specs.Lines.{overwriteFront};
+ghost use Rattle.table_text.specs.Lines.{overwriteFront, gridText};
 
 // Writes the interval of a row, behind a space.
 fn put_interval(w: u32, out: &mut [u8]) -> usize
@@ -35,7 +36,7 @@ fn put_intervals(cell: &[u32], out: &mut [u8]) -> usize
 }
 
 // Writes the line of cell (u, v); an empty cell has none.
-pub(crate) fn put_cell(cell: &[u32], u: u32, v: u32, out: &mut [u8]) -> usize
+fn put_cell(cell: &[u32], u: u32, v: u32, out: &mut [u8]) -> usize
     requires { ⌜ Stored (now cell) ⌝ }
     requires { ⌜ length (cellText u v (cellOf (now cell))) ≤ length (now out) ⌝ }
     ensures { λ r. ⌜ r ≡ length (cellText u v (cellOf (now (cell .entry)))) ⌝ }
@@ -49,4 +50,22 @@ pub(crate) fn put_cell(cell: &[u32], u: u32, v: u32, out: &mut [u8]) -> usize
     let end = b + put_intervals(cell, &mut out[b..]);
     out[end] = b'\n';
     end + 1
+}
+
+// Writes the lines of n × n cells of `size` words.
+pub(crate) fn put_cells(body: &[u32], n: u32, size: usize, out: &mut [u8]) -> usize
+    requires { ⌜ Grid Stored n size (now body) ⌝ }
+    requires { ⌜ length (gridText n size (now body)) ≤ length (now out) ⌝ }
+    ensures { λ r. ⌜ r ≡ length (gridText n size (now (body .entry))) ⌝ }
+    ensures { λ _. ⌜ now (out .exit) ≡ overwriteFront (gridText n size (now (body .entry))) (now (out .entry)) ⌝ }
+{
+    let cells = n as usize * n as usize;
+    let mut here = grid::first_cell();
+    let mut end = 0;
+    for k in 0..cells {
+        let at = here.at;
+        end = end + put_cell(&body[at..at + size], here.from, here.to, &mut out[end..]);
+        here = grid::next_cell(here, n, size);
+    }
+    end
 }

@@ -1,6 +1,5 @@
 // The text of a table, written to the front of a lent buffer.
 mod cell;
-mod cell_lines;
 
 ghost use mathlib.Core.Path.{_≡_};
 ghost use mathlib.Core.List.{[], _∷_, _++_};
@@ -70,7 +69,7 @@ pub fn put_table(table: &[u32], held: u32, out: &mut [u8]) -> usize
     let ticks = words::ticks_of(w);
     let size = ticks as usize + 1;
     let at = put_first_line(n, ticks, words::carry_of(w), held, out);
-    at + cell_lines::put_all_cells(&table[1..], n, size, &mut out[at..])
+    at + cell::put_cells(&table[1..], n, size, &mut out[at..])
 }
 
 // Writes the line of a refusal.
