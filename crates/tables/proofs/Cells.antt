@@ -2,16 +2,15 @@
 -- table just opened.
 use mathlib.Core.Path.{_≡_, refl, sym, ap, ap₂, _∙_}
 use mathlib.Core.Bool.{Bool, true, false, cond}
-use mathlib.Core.List.{List, [], _∷_, _++_, append-assoc, append-nil}
+use mathlib.Core.List.{List, [], _∷_, _++_, append-nil}
 use Prim.Native.Nat.{ℕ, zero, suc, _+_, _-_, _*_, _≤_, _<_}
-use native.Mathlib.Nat.{add-zero, add-suc, suc-mul, zero-mul, mul-assoc}
+use native.Mathlib.Nat.{mul-assoc}
 use native.Mathlib.Numerals.{add-one}
 use native.Mathlib.Omega.{arith}
 use lib.Dec.{eqb}
 use lib.ListN.{length, getD, take, drop, set, replicate, length-set, length-replicate, getD-replicate}
 use lib.Seq.{take-all, take-length, take-suc, take-suc-set, drop-drop, drop-length}
 use Rattle.words.specs.Words.{openingWord, countWord, unusedWord}
-use Rattle.rules.specs.Folds.{flat, allBelow}
 use Rattle.rules.specs.Layout.{tableLength, cellWords, tableWords, animals, ticks, carry, cellAt}
 use Rattle.rules.specs.Checks.{isOpen, cellWellFormed, wellFormed}
 use Rattle.rules.specs.Opening.{noIntervals}
@@ -20,6 +19,7 @@ use Rattle.rules.proofs.Sound.{opens-length}
 use Rattle.grid.specs.Parts.{part, parts}
 use Rattle.grid.proofs.Places.{part-inside, part-length, part-of-part, rest-lent, rest-length}
 use Rattle.grid.proofs.Reading.{all-same}
+use Rattle.grid.proofs.Numbered.{flat-square}
 use Rattle.grid.proofs.Flat.{parts-flat}
 use Rattle.tables.specs.Cells.{mostRows, cellOfWellFormed, cellsFromWellFormed, cellsFromAt, allCellsWellFormed, emptied}
 
@@ -72,18 +72,6 @@ module _ (T : List ℕ) (n τ δ : ℕ) (a : n ≡ animals T) (b : τ ≡ ticks 
   cells-formed = rw (rest-lent T, a, b, c) (body-formed T)
 
 -- ---- empty cells
-
--- Equal parts, m of them and then n.
-flat-more : (a : List ℕ) (m n : ℕ) → flat (λ k. a) (m + n) ≡ flat (λ k. a) m ++ flat (λ k. a) n
-unfolding flat
-flat-more a m zero = rw (add-zero m) (sym (append-nil (flat (λ k. a) m)))
-flat-more a m (suc n) = rw (add-suc m n) (ap (λ (l : List ℕ). l ++ a) (flat-more a m n) ∙ append-assoc (flat (λ k. a) m) (flat (λ k. a) n) a)
-
--- Equal parts, n and n together.
-flat-rows : (a : List ℕ) (m n : ℕ) → flat (λ k. a) (m * n) ≡ flat (λ u. flat (λ v. a) n) m
-unfolding flat
-flat-rows a zero n = ap (flat (λ k. a)) (zero-mul n)
-flat-rows a (suc m) n = ap (flat (λ k. a)) (suc-mul m n) ∙ flat-more a (m * n) n ∙ ap (λ (l : List ℕ). l ++ flat (λ k. a) n) (flat-rows a m n)
 
 -- An empty cell is a count word and τ unused words.
 empty-words : (τ : ℕ) → cellWords τ [] ≡ countWord 0 ∷ replicate τ unusedWord
@@ -143,7 +131,7 @@ pub opened-words : (n τ δ : ℕ) (l : List ℕ) → length l ≡ n * n * (τ +
 unfolding tableWords
 opened-words n τ δ l h =
     ap (λ (b : List ℕ). openingWord n τ δ ∷ b)
-    (parts-flat emptied (τ + 1) l (n * n) h (λ k o. ap length (empty k o) ∙ empty-length τ) ∙ flat-same _ _ (n * n) empty ∙ flat-rows (cellWords τ []) n n)
+    (parts-flat emptied (τ + 1) l (n * n) h (λ k o. ap length (empty k o) ∙ empty-length τ) ∙ flat-same _ _ (n * n) empty ∙ flat-square (λ k. cellWords τ []) n n)
   where
     empty : (k : ℕ) → k < n * n → emptied k (part (τ + 1) k l) ≡ cellWords τ []
     empty k o = part-emptied τ k l (omega (arith, part-inside k (n * n) (τ + 1) o))
