@@ -21,6 +21,11 @@ use Rattle.grid.proofs.Numbered.{flat-square}
 -- ---- one step
 
 module _ (n s : ℕ) (c : CellPlace) where
+  -- Fewer words are left behind it, of m, where a cell has words.
+  pub next-less : {d : CellPlace} → d ≡ nextCell n s c → {m : ℕ} → c .at < m → 1 ≤ s → m - d .at < m - c .at
+  unfolding nextCell
+  next-less {d} e h p = let q : d .at ≡ c .at + s = ap (λ (x : CellPlace). x .at) e in omega arith
+
   -- To the next animal.
   pub next-on : c .to + 1 < n → record { at = c .at + s; from = c .from; to = c .to + 1 } ≡ nextCell n s c
   unfolding nextCell
@@ -147,34 +152,62 @@ pub record AtCell (P : List ℕ → Type 0) (n s : ℕ) (body : List ℕ) (c : C
   pub lent : take (c .at + s - c .at) (drop (c .at) body) ≡ cellIn n s body (c .from) (c .to)
   pub property : P (take (c .at + s - c .at) (drop (c .at) body))
 
--- As long as a cell is left, the next is such.
-pub at-cell : {P : List ℕ → Type 0} {n s : ℕ} {body : List ℕ} {c : CellPlace} {k : ℕ} → Grid P n s body → Stepped n s c k → k < n * n → AtCell P n s body c
-at-cell {P} {n} {s} {body} {c} {k} g w h =
-    record {
-      from-below = from;
-      to-below = named .to-below;
-      bound = (omega (arith, inside, g .long, mul-le-mul (grid-few g) (g .short)), g .short);
-      inside = inside;
-      lent = lent;
-      property = grid-lent g (c .from) (c .to) from (named .to-below) lent;
-    }
-  where
-    some-animal : (m : ℕ) → k < m * m → 0 < m
-    some-animal zero o = absurd (omega (arith, zero-mul 0))
-    some-animal (suc m) o = omega arith
+module _ {P : List ℕ → Type 0} {n s : ℕ} {body : List ℕ} {c : CellPlace} {k : ℕ} (g : Grid P n s body) (w : Stepped n s c k) where
+  -- c is cell k where there is an animal.
+  named : 0 < n → Named n s k c
+  named h = rw (w .is) (after-named n s h k)
 
-    named : Named n s k c
-    named = rw (w .is) (after-named n s (some-animal n h) k)
+  some-animal : k < n * n → 0 < n
+  some-animal = go n
+    where
+      go : (m : ℕ) → k < m * m → 0 < m
+      go zero o = absurd (omega (arith, zero-mul 0))
+      go (suc m) o = omega arith
 
-    below : {b : Bool} → Outcome (c .from < n) (n ≤ c .from) b → c .from < n
-    below (holds o) = o
-    below (fails o) = absurd (omega (arith, mul-le-mul-right n o, named .number, h))
+  -- A cell is left where c begins inside the words.
+  pub cell-left : c .at < length body → k < n * n
+  cell-left h = go (lt-outcome k (n * n)) (lt-outcome 0 n)
+    where
+      none : n ≤ 0 → length body ≤ 0
+      none o = omega (arith, g .long, mul-le-mul (mul-le-mul o o) (g .short))
 
-    from : c .from < n
-    from = below (lt-outcome (c .from) n)
+      go : {a b : Bool} → Outcome (k < n * n) (n * n ≤ k) a → Outcome (0 < n) (n ≤ 0) b → k < n * n
+      go (holds o) q = o
+      go (fails o) (holds q) = absurd (omega (arith, mul-le-mul-right s o, named q .begins, g .long))
+      go (fails o) (fails q) = absurd (omega (arith, none q))
 
-    inside : c .at + s ≤ length body
-    inside = omega (arith, part-inside k (n * n) s h, named .begins, g .long)
+  -- None is left where it does not, if a cell has words.
+  pub none-left : 1 ≤ s → length body ≤ c .at → n * n ≤ k
+  none-left p h = go (lt-outcome k (n * n))
+    where
+      go : {a : Bool} → Outcome (k < n * n) (n * n ≤ k) a → n * n ≤ k
+      go (holds o) = absurd (omega (arith, part-inside k (n * n) s o, named (some-animal o) .begins, g .long))
+      go (fails o) = o
 
-    lent : take (c .at + s - c .at) (drop (c .at) body) ≡ cellIn n s body (c .from) (c .to)
-    lent = cell-lent n s body (c .from) (c .to) (c .at) (named .begins ∙ ap (λ (i : ℕ). i * s) (sym (named .number)))
+  -- As long as a cell is left, the next is such.
+  pub at-cell : k < n * n → AtCell P n s body c
+  at-cell h =
+      record {
+        from-below = from;
+        to-below = it .to-below;
+        bound = (omega (arith, inside, g .long, mul-le-mul (grid-few g) (g .short)), g .short);
+        inside = inside;
+        lent = lent;
+        property = grid-lent g (c .from) (c .to) from (it .to-below) lent;
+      }
+    where
+      it : Named n s k c
+      it = named (some-animal h)
+
+      below : {b : Bool} → Outcome (c .from < n) (n ≤ c .from) b → c .from < n
+      below (holds o) = o
+      below (fails o) = absurd (omega (arith, mul-le-mul-right n o, it .number, h))
+
+      from : c .from < n
+      from = below (lt-outcome (c .from) n)
+
+      inside : c .at + s ≤ length body
+      inside = omega (arith, part-inside k (n * n) s h, it .begins, g .long)
+
+      lent : take (c .at + s - c .at) (drop (c .at) body) ≡ cellIn n s body (c .from) (c .to)
+      lent = cell-lent n s body (c .from) (c .to) (c .at) (it .begins ∙ ap (λ (i : ℕ). i * s) (sym (it .number)))

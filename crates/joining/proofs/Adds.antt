@@ -190,36 +190,42 @@ module _ {δ u v : ℕ} {cell T₀ T : List ℕ} {new e i : ℕ} (w : AddedRows 
 
 -- ---- all cells
 
--- The contacts of the first k of n × n cells of s words are added, and c is the next cell.
-pub record AddedCells (δ n s : ℕ) (body T₀ T : List ℕ) (new : ℕ) (c : CellPlace) (k : ℕ) : Type 0 where
-  pub stepped : Stepped n s c k
-  pub added : AddedSoFar (gridContacts δ n s body) (cellsLeft δ n s body c (n * n - k)) T₀ T new
+-- The contacts of some of n × n cells of s words are added, and c is the next cell.
+pub record AddedCells (δ n s : ℕ) (body T₀ T : List ℕ) (new : ℕ) (c : CellPlace) : Type 0 where
+  pub passed : ℕ
+  pub stepped : Stepped n s c passed
+  pub added : AddedSoFar (gridContacts δ n s body) (cellsLeft δ n s body c (n * n - passed)) T₀ T new
 
 -- No cell is passed yet.
-pub cells-start : {δ n s : ℕ} (body T : List ℕ) {c : CellPlace} → c ≡ firstCell → AddedCells δ n s body T T 0 c 0
-cells-start {δ} {n} {s} body T e = record { stepped = stepped-start n s e; added = added-start _ _ T (cells-all δ n s body e) }
+pub cells-start : {δ n s : ℕ} (body T : List ℕ) {c : CellPlace} → c ≡ firstCell → AddedCells δ n s body T T 0 c
+cells-start {δ} {n} {s} body T e = record { passed = 0; stepped = stepped-start n s e; added = added-start _ _ T (cells-all δ n s body e) }
 
-module _ {δ n s : ℕ} {body T₀ T : List ℕ} {new : ℕ} {c : CellPlace} {k : ℕ} (w : AddedCells δ n s body T₀ T new c k) where
-  module _ (h : k < n * n) (lent : List ℕ) (e : lent ≡ cellIn n s body (c .from) (c .to)) where
+module _ {δ n s : ℕ} {body T₀ T : List ℕ} {new : ℕ} {c : CellPlace} (w : AddedCells δ n s body T₀ T new c) where
+  module _ (h : w .passed < n * n) (lent : List ℕ) (e : lent ≡ cellIn n s body (c .from) (c .to)) where
     -- The contacts of the next cell, as it is lent.
     abbrev these : List Contact
     these = cellContacts δ (c .from) (c .to) (cellOf lent)
 
     -- They can be added.
     pub cell-addable : Addable T₀ (gridContacts δ n s body) → Addable T these
-    cell-addable = added-addable (w .added) _ _ (cells-next δ n s body c k h refl lent e)
+    cell-addable = added-addable (w .added) _ _ (cells-next δ n s body c (w .passed) h refl lent e)
 
     module _ {r : ℕ} (f : r ≡ newAdds engine T these) where
       pub cell-few : Addable T₀ (gridContacts δ n s body) → new + r ≤ maxContacts
-      cell-few = added-few (w .added) _ _ (cells-next δ n s body c k h refl lent e) f
+      cell-few = added-few (w .added) _ _ (cells-next δ n s body c (w .passed) h refl lent e) f
 
       -- They are added.
-      pub cell-turn : {d : CellPlace} → d ≡ nextCell n s c → {U : List ℕ} → U ≡ run engine T these → AddedCells δ n s body T₀ U (new + r) d (k + 1)
-      cell-turn g q = record { stepped = stepped-turn (w .stepped) g; added = added-turn (w .added) _ _ (cells-next δ n s body c k h g lent e) f q }
+      pub cell-turn : {d : CellPlace} → d ≡ nextCell n s c → {U : List ℕ} → U ≡ run engine T these → AddedCells δ n s body T₀ U (new + r) d
+      cell-turn g q =
+          record {
+            passed = w .passed + 1;
+            stepped = stepped-turn (w .stepped) g;
+            added = added-turn (w .added) _ _ (cells-next δ n s body c (w .passed) h g lent e) f q;
+          }
 
   -- All cells are passed.
-  pub cells-added : n * n ≤ k → (new ≡ newAdds engine T₀ (gridContacts δ n s body)) × (T ≡ run engine T₀ (gridContacts δ n s body))
-  cells-added h = added-end (w .added) (cells-none δ n s body c k h)
+  pub cells-added : n * n ≤ w .passed → (new ≡ newAdds engine T₀ (gridContacts δ n s body)) × (T ≡ run engine T₀ (gridContacts δ n s body))
+  cells-added h = added-end (w .added) (cells-none δ n s body c (w .passed) h)
 
 -- ---- two tables that can be joined, the second by the numbers read off it
 

@@ -63,37 +63,45 @@ module _ (xs : List ℕ) (u v : ℕ) (h : Stored xs) where
 abbrev cellsLeft : ℕ → ℕ → List ℕ → CellPlace → ℕ → List ℕ
 cellsLeft n s body c m = listsFrom n s (textIn n s body) c m
 
--- The text of the first k of n × n cells of s words is written, and c is the next cell.
-pub record WritingCells (n s : ℕ) (body l out : List ℕ) (c : CellPlace) (at k : ℕ) : Type 0 where
-  pub stepped : Stepped n s c k
-  pub writing : Writing (gridText n s body) l out at (cellsLeft n s body c (n * n - k))
+-- The text of some of n × n cells of s words is written, and c is the next cell.
+pub record WritingCells (n s : ℕ) (body l out : List ℕ) (c : CellPlace) (at : ℕ) : Type 0 where
+  pub passed : ℕ
+  pub stepped : Stepped n s c passed
+  pub writing : Writing (gridText n s body) l out at (cellsLeft n s body c (n * n - passed))
 
 -- No cell is written yet.
-pub cells-start : (n s : ℕ) (body l : List ℕ) {c : CellPlace} → c ≡ firstCell → length (gridText n s body) ≤ length l → WritingCells n s body l l c 0 0
+pub cells-start : (n s : ℕ) (body l : List ℕ) {c : CellPlace} → c ≡ firstCell → length (gridText n s body) ≤ length l → WritingCells n s body l l c 0
 unfolding gridText
-cells-start n s body l e h = record { stepped = stepped-start n s e; writing = start _ l _ (lists-all n s (textIn n s body) e) h }
+cells-start n s body l e h = record { passed = 0; stepped = stepped-start n s e; writing = start _ l _ (lists-all n s (textIn n s body) e) h }
 
-module _ {n s : ℕ} {body l out : List ℕ} {c : CellPlace} {at k : ℕ} (w : WritingCells n s body l out c at k) where
-  module _ (h : k < n * n) (lent : List ℕ) (e : lent ≡ cellIn n s body (c .from) (c .to)) where
+module _ {n s : ℕ} {body l out : List ℕ} {c : CellPlace} {at : ℕ} (w : WritingCells n s body l out c at) where
+  module _ (h : w .passed < n * n) (lent : List ℕ) (e : lent ≡ cellIn n s body (c .from) (c .to)) where
     -- The text of the next cell, as it is lent, then that of the cells after it.
     abbrev this : List ℕ
     this = cellText (c .from) (c .to) (cellOf lent)
 
-    then-others : (d : CellPlace) → d ≡ nextCell n s c → cellsLeft n s body c (n * n - k) ≡ this ++ cellsLeft n s body d (n * n - (k + 1))
+    then-others : (d : CellPlace) → d ≡ nextCell n s c → cellsLeft n s body c (n * n - w .passed) ≡ this ++ cellsLeft n s body d (n * n - (w .passed + 1))
     unfolding textIn
-    then-others d g = lists-next n s (textIn n s body) c k h g ∙ ap (λ (x : List ℕ). cellText (c .from) (c .to) (cellOf x) ++ cellsLeft n s body d (n * n - (k + 1))) (sym e)
+    then-others d g =
+        lists-next n s (textIn n s body) c (w .passed) h g
+        ∙ ap (λ (x : List ℕ). cellText (c .from) (c .to) (cellOf x) ++ cellsLeft n s body d (n * n - (w .passed + 1))) (sym e)
 
     -- It fits the rest of the list.
     pub cell-fits : length this ≤ length (take (length out - at) (drop at out))
     cell-fits = fits (w .writing) this _ (then-others (nextCell n s c) refl)
 
     -- It is written.
-    pub cell-written : {d : CellPlace} → d ≡ nextCell n s c → (new : List ℕ) (r : ℕ) → r ≡ length this → new ≡ overwriteFront this (take (length out - at) (drop at out)) → WritingCells n s body l (back out at new) d (at + r) (k + 1)
-    cell-written {d} g new r i f = record { stepped = stepped-turn (w .stepped) g; writing = piece (w .writing) new this _ r (then-others d g) i f }
+    pub cell-written : {d : CellPlace} → d ≡ nextCell n s c → (new : List ℕ) (r : ℕ) → r ≡ length this → new ≡ overwriteFront this (take (length out - at) (drop at out)) → WritingCells n s body l (back out at new) d (at + r)
+    cell-written {d} g new r i f =
+        record {
+          passed = w .passed + 1;
+          stepped = stepped-turn (w .stepped) g;
+          writing = piece (w .writing) new this _ r (then-others d g) i f;
+        }
 
   -- All cells are written.
-  pub cells-written : n * n ≤ k → (at ≡ length (gridText n s body)) × (out ≡ overwriteFront (gridText n s body) l)
-  cells-written h = end (w .writing) (lists-none n s (textIn n s body) c k h)
+  pub cells-written : n * n ≤ w .passed → (at ≡ length (gridText n s body)) × (out ≡ overwriteFront (gridText n s body) l)
+  cells-written h = end (w .writing) (lists-none n s (textIn n s body) c (w .passed) h)
 
 -- The text of the cells in the words after the opening word is that of the table's cells.
 cells-text : (T : List ℕ) → gridText (animals T) (ticks T + 1) (drop 1 T) ≡ flat (λ u. flat (λ v. cellText u v (cellsOf T u v)) (animals T)) (animals T)

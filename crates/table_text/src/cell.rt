@@ -54,15 +54,14 @@ fn put_cell(cell: &[u32], u: u32, v: u32, out: &mut [u8]) -> usize
 
 // Writes the lines of n × n cells of `size` words.
 pub(crate) fn put_cells(body: &[u32], n: u32, size: usize, out: &mut [u8]) -> usize
-    requires { ⌜ Grid Stored n size (now body) ⌝ }
+    requires { ⌜ (1 ≤ size) × Grid Stored n size (now body) ⌝ }
     requires { ⌜ length (gridText n size (now body)) ≤ length (now out) ⌝ }
     ensures { λ r. ⌜ r ≡ length (gridText n size (now (body .entry))) ⌝ }
     ensures { λ _. ⌜ now (out .exit) ≡ overwriteFront (gridText n size (now (body .entry))) (now (out .entry)) ⌝ }
 {
-    let cells = n as usize * n as usize;
     let mut here = grid::first_cell();
     let mut end = 0;
-    for k in 0..cells {
+    while here.at < body.len() {
         let at = here.at;
         end = end + put_cell(&body[at..at + size], here.from, here.to, &mut out[end..]);
         here = grid::next_cell(here, n, size);

@@ -38,7 +38,7 @@ join-cells-requires c κs =
     let k = c .before .before in
     let r = read k in
     let s = entry k in
-    ((read-carry (S k) r, lent-cells (S k) (s .pre .1) _ _ (r .animals-is) (r .size-is)), cells-addable _ _ (joins s) r)
+    ((read-carry (S k) r, omega arith, lent-cells (S k) (s .pre .1) _ _ (r .animals-is) (r .size-is)), cells-addable _ _ (joins s) r)
 
 returns : tie.Need-returns
 returns c = let k = c .before .before in cells-joined _ _ (joins (entry (numbers k))) (read (numbers k)) (k .join-cells .ensures)

@@ -75,7 +75,7 @@ put-cells-requires : tie.Need-put-cells-requires
 put-cells-requires c κs =
     let p = titled (c .before) in
     let r = numbers p in
-    (lent-cells (T r) (entry r .pre .0) _ _ (read r .animals-is) (read r .size-is), fits-last (wrote1 p) (lines r) refl)
+    ((omega arith, lent-cells (T r) (entry r .pre .0) _ _ (read r .animals-is) (read r .size-is)), fits-last (wrote1 p) (lines r) refl)
 
 pub put-table-spec : {M : Type 1} → statement M
 put-table-spec =
