@@ -5,6 +5,7 @@ use Rattle.journeys.specs.Journey.{contact}
 use Rattle.rules.specs.Adding.{addRefusal, addAnswer, addLeaves}
 use Rattle.checks.proofs.Judged.{verdict-refused, verdict-passed}
 use borrow.Author.Needs.{needs}
+use Rattle.engine.proofs.Told.{known-told, new-told}
 use Rattle.engine.proofs.add_contact.Statement.{statement}
 use Rattle.engine.proofs.add_contact.Tie as tie
 
@@ -17,22 +18,20 @@ passed : (c : tie.After-add-contact-arg) → let a = judged c .before .before .b
 passed c = verdict-passed (judged c .judge-add .ensures) (c .before .enum-told .given .1)
 
 returns : tie.Need-returns
-unfolding addAnswer
 returns c =
     let d = c .before .before .before in
     let r = d .add-contact .ensures in
-    (rw (passed (d .before), sym (r .0) ∙ c .if1 .taken, r .1 .0) refl, r .1 .1)
+    (known-told _ _ (passed (d .before)) (r .1 .0) (sym (r .0) ∙ c .if1 .taken), r .1 .1)
 
 returns-2 : tie.Need-returns-2
 unfolding addAnswer addLeaves
 returns-2 c = let e = verdict-refused (c .before .before .before .judge-add .ensures) (c .before .verdict .given .1) in (rw e refl, rw e refl)
 
 returns-3 : tie.Need-returns-3
-unfolding addAnswer
 returns-3 c =
     let d = c .before .before .before in
     let r = d .add-contact .ensures in
-    (rw (passed (d .before), sym (r .0) ∙ c .if1 .left, r .1 .0) refl, r .1 .1)
+    (new-told _ _ (passed (d .before)) (r .1 .0) (sym (r .0) ∙ c .if1 .left), r .1 .1)
 
 pub add-contact-spec : {M : Type 1} → statement M
 add-contact-spec =

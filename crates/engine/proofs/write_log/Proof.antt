@@ -1,5 +1,5 @@
 -- `write_log` meets its contract: each return is a case of the rule.
-use mathlib.Core.Path.{refl, sym, _∙_}
+use mathlib.Core.Path.{refl, sym, ap, _∙_}
 use mathlib.Core.Option.{Option, none}
 use mathlib.Core.List.{List}
 use Prim.Native.Nat.{ℕ, _+_}
@@ -7,6 +7,7 @@ use lib.Dec.{leb}
 use lib.ListN.{length}
 use Rattle.rules.specs.declared.Refusal.{Refusal}
 use Rattle.rules.specs.declared.Refusal.the-variants.{LogBufferTooShort}
+use Rattle.rules.specs.declared.WriteAnswer.the-variants.{Written}
 use Rattle.rules.specs.Answers.{ensure}
 use Rattle.rules.specs.Logs.{heldContacts, writeRefusal, writeAnswer, writeLeaves}
 use Rattle.rules.specs.Checks.{ValidTable}
@@ -34,7 +35,7 @@ returns c =
     let a = judged (h .before) .before .before .before .args in
     let v = behind-valid (a .table .now) (valid (h .before)) (roomCheck (a .table .now) (a .buffer .now)) in
     let t = sym (r .0) ∙ c .if1 .taken in
-    (rw (v, t, r .1 .0) refl, rw (v, t) (rw t at (r .1 .1)))
+    (rw (v, t) (ap Written (r .1 .0)), rw (v, t) (rw t at (r .1 .1)))
 
 returns-2 : tie.Need-returns-2
 unfolding writeAnswer writeLeaves writeRefusal
