@@ -1,69 +1,29 @@
--- Groups of checks: what the verdict of one group says of all checks behind it, and what the verdict of a call's checks says.
+-- What the verdict of one group of checks says of all checks behind it, and what the verdict of a call's checks says.
 use mathlib.Core.Path.{_≡_, refl, sym, ap, ap₂, _∙_}
-use mathlib.Core.Bool.{Bool, true, false, not, _&&_}
+use mathlib.Core.Bool.{Bool}
 use mathlib.Core.Option.{Option, none, some}
 use mathlib.Core.List.{List, [], _∷_}
 use Prim.Native.Nat.{ℕ, _+_, _-_, _≤_, _<_}
 use native.Mathlib.Omega.{arith}
-use lib.Dec.{ltb, leb, eqb}
+use lib.Dec.{ltb, leb}
 use lib.ListN.{length, getD}
 use borrow.Author.Tests.{ltb-true, leb-true}
 use Rattle.journeys.proofs.Tests.{never}
 use Rattle.words.specs.Words.{animalsOf, ticksOf, carryOf}
 use Rattle.rules.specs.declared.Refusal.{Refusal}
-use Rattle.rules.specs.declared.Refusal.the-variants.{NotOpen, NotWellFormed, NoSuchAnimal, SameAnimal, TickOutOfRange, ChainBufferTooShort}
+use Rattle.rules.specs.declared.Refusal.the-variants.{NoSuchAnimal, TickOutOfRange, ChainBufferTooShort}
 use Rattle.rules.specs.Answers.{ensure}
 use Rattle.rules.specs.Layout.{animals, ticks}
-use Rattle.rules.specs.Checks.{isOpen, wellFormed, ValidTable, ensureTable}
+use Rattle.rules.specs.Checks.{ValidTable, ensureTable}
 use Rattle.rules.specs.Adding.{ensurePair}
 use Rattle.rules.specs.Windows.{lastArrival, windowInRange, inOrder, ensureWindow}
 use Rattle.rules.specs.Questions.{ensureAnimal}
 use Rattle.rules.proofs.Judged.{ensure-iff}
+use Rattle.rules.proofs.Groups.{Group}
 use Rattle.rules.proofs.Asked.{valid-behind, PairOf, pair-behind}
 use Rattle.checks.specs.declared.Verdict.{Verdict}
 use Rattle.checks.specs.declared.Verdict.the-variants.{Passed, Refused}
 use Rattle.checks.specs.Verdicts.{verdictOf, andThen}
-
--- ---- groups
-
--- A group of checks refuses by itself, or leaves it to those behind it.
-pub record Group (f : Option Refusal → Option Refusal) : Type 0 where
-  pub refuses : (r : Refusal) → f none ≡ some r → (o : Option Refusal) → f o ≡ some r
-  pub passes : f none ≡ none → (o : Option Refusal) → f o ≡ o
-
--- Nothing refused is no refusal.
-pub none-is-not-some : {A : Type 0} {r : Refusal} → none ≡ some r → A
-none-is-not-some e = never cc
-
--- A refusal is not nothing refused.
-pub some-is-not-none : {A : Type 0} {r : Refusal} → some r ≡ none → A
-some-is-not-none e = none-is-not-some (sym e)
-
--- One check is a group.
-pub one-check : (b : Bool) (q : Refusal) → Group (ensure b q)
-one-check true q = record { refuses = λ r e o. none-is-not-some e; passes = λ e o. refl }
-one-check false q = record { refuses = λ r e o. e; passes = λ e o. some-is-not-none e }
-
--- Two groups, one after the other, are a group.
-pub both-groups : {f g : Option Refusal → Option Refusal} → Group f → Group g → Group (λ o. f (g o))
-both-groups {f} {g} p q = record { refuses = refuses (f none) refl; passes = passes (f none) refl }
-  where
-    refuses : (a : Option Refusal) → f none ≡ a → (r : Refusal) → f (g none) ≡ some r → (o : Option Refusal) → f (g o) ≡ some r
-    refuses none h r e o = p .passes h (g o) ∙ q .refuses r (sym (p .passes h (g none)) ∙ e) o
-    refuses (some s) h r e o = p .refuses s h (g o) ∙ sym (p .refuses s h (g none)) ∙ e
-
-    passes : (a : Option Refusal) → f none ≡ a → f (g none) ≡ none → (o : Option Refusal) → f (g o) ≡ o
-    passes none h e o = p .passes h (g o) ∙ q .passes (sym (p .passes h (g none)) ∙ e) o
-    passes (some s) h e o = some-is-not-none (sym (p .refuses s h (g none)) ∙ e)
-
-pub table-group : (T : List ℕ) → Group (ensureTable T)
-table-group T = both-groups (one-check (isOpen T) NotOpen) (one-check (wellFormed T) NotWellFormed)
-
-pub pair-group : (T : List ℕ) (u v : ℕ) → Group (ensurePair T u v)
-pair-group T u v = both-groups (one-check (ltb u (animals T) && ltb v (animals T)) NoSuchAnimal) (one-check (not (eqb u v)) SameAnimal)
-
-pub window-group : (T : List ℕ) (first last : ℕ) → Group (ensureWindow T first last)
-window-group T first last = both-groups (one-check (windowInRange T first last) TickOutOfRange) (one-check (inOrder first last) TickOutOfRange)
 
 -- ---- verdicts
 
@@ -95,10 +55,6 @@ chained {f} g o {a} {w} {r} p q e = e ∙ ap (λ (x : Verdict). andThen x w) p �
     go (some s) h = ap verdictOf (sym (g .refuses s h o))
 
 -- ---- what a call that is not refused may rely on
-
--- On a table that passed 5 and 6, the checks are those behind them.
-pub behind-valid : (T : List ℕ) → ValidTable T → (o : Option Refusal) → ensureTable T o ≡ o
-behind-valid T p o = rw (p .opens, p .formed) refl
 
 -- A table that was judged passed is valid.
 pub table-valid : (T : List ℕ) {v : Verdict} → v ≡ verdictOf (ensureTable T none) → v ≡ Passed → ValidTable T

@@ -1,5 +1,5 @@
 -- The checks of an opening: the limits of its three numbers, then the length of the table.
-use mathlib.Core.Path.{_≡_, refl, sym, ap, ap₂, _∙_, subst}
+use mathlib.Core.Path.{_≡_, refl, sym, ap, _∙_, subst}
 use mathlib.Core.Option.{Option, none, some}
 use mathlib.Core.List.{List}
 use Prim.Native.Nat.{ℕ, _≤_}
@@ -12,7 +12,7 @@ use Rattle.rules.specs.declared.Refusal.the-variants.{WrongLength, AnimalsBeyon
 use Rattle.rules.specs.Answers.{ensure}
 use Rattle.rules.specs.Folds.{within}
 use Rattle.rules.specs.Layout.{tableLength}
-use Rattle.rules.specs.Opening.{Sizes, ensureSizes, openRefusal}
+use Rattle.rules.specs.Opening.{ensureSizes, openRefusal}
 use Rattle.rules.proofs.Judged.{sizes-iff}
 use Rattle.tables.specs.declared.Opening.{Opening}
 use Rattle.tables.specs.declared.Made.{Made}
@@ -21,7 +21,7 @@ use Rattle.tables.specs.Openings.{madeOf, made}
 use Rattle.checks.specs.declared.Verdict.{Verdict}
 use Rattle.checks.specs.declared.Verdict.the-variants.{Refused}
 use Rattle.checks.specs.Verdicts.{verdictOf}
-use Rattle.checks.proofs.Judged.{Group, one-check, both-groups}
+use Rattle.rules.proofs.Groups.{Group, one-check, both-groups}
 
 -- The limits of the three numbers are a group.
 sizes-group : (n τ δ : ℕ) → Group (ensureSizes n τ δ)

@@ -1,18 +1,16 @@
 -- The checks of a log: each word in turn, and the words between the first and the last.
 use mathlib.Core.Path.{_≡_, refl, sym, ap, _∙_}
-use mathlib.Core.Bool.{Bool, true, false, not, _&&_}
-use mathlib.Core.Option.{Option, none, some}
+use mathlib.Core.Bool.{Bool, true, false, not}
+use mathlib.Core.Option.{none}
 use mathlib.Core.List.{List, [], _∷_}
 use Prim.Native.Nat.{ℕ, suc, _+_, _-_, _≤_, _<_}
 use native.Mathlib.Numerals.{add-one}
 use native.Mathlib.Omega.{arith}
 use lib.ListN.{length, getD, take, drop, length-drop}
 use lib.Seq.{drop-cons}
-use lib.Dec.{leb, ltb, eqb}
 use Rattle.journeys.specs.Journey.{contact}
 use Rattle.words.specs.Layout.{get, isOf}
 use Rattle.words.specs.Words.{contactLayout, contactOf, fromField, toField, tickField}
-use Rattle.rules.specs.declared.Refusal.{Refusal}
 use Rattle.rules.specs.declared.Refusal.the-variants.{NotAContact, IllegalContact}
 use Rattle.rules.specs.declared.LogWord.{LogWord}
 use Rattle.rules.specs.declared.LogWord.the-variants.{Legal, NoContact, NotLegal}
@@ -20,7 +18,7 @@ use Rattle.rules.specs.Reading.{between, isLegal, logWord, ensureLegal, ensureW
 use Rattle.cell_checks.proofs.Checks.{stopped, passed}
 use Rattle.checks.specs.declared.Verdict.the-variants.{Passed, Refused}
 use Rattle.checks.specs.Verdicts.{verdictOf}
-use Rattle.checks.proofs.Judged.{Group, both-groups, none-is-not-some, some-is-not-none}
+use Rattle.rules.proofs.Groups.{Group, both-groups, none-is-not-some, some-is-not-none}
 
 -- ---- one word
 

@@ -27,6 +27,7 @@ use Rattle.rules.specs.Joining.{ensureSameOpening, joinRefusal, joinAnsw
 use Rattle.rules.specs.JoinRule.{JoinCounts, JoinRule}
 use Rattle.rules.proofs.Judged.{ensure-iff, unless-cases}
 use Rattle.rules.proofs.Asked.{valid-behind}
+use Rattle.rules.proofs.Groups.{table-group, behind-valid}
 use Rattle.rules.proofs.Laid.{laid-first}
 use Rattle.rules.proofs.Fresh.{fresh-laid, fresh-animals, fresh-ticks, fresh-passes, fresh-map, fresh-unique}
 use Rattle.rules.proofs.Reading.{comesIn-outcome}
@@ -45,19 +46,6 @@ pub record Joins (F S : List ℕ) : Type 0 where
   pub second : ValidTable S
   pub opening : getD F 0 0 ≡ getD S 0 0
 
--- What is checked behind 5 and 6 of a table that passes them.
-behind : (T : List ℕ) → ValidTable T → (o : Option Refusal) → ensureTable T o ≡ o
-behind T p o = rw (p .opens, p .formed) refl
-
--- What a table is refused with, whatever is checked behind it.
-refused-first : (T : List ℕ) (r : Refusal) → ensureTable T none ≡ some r → (o : Option Refusal) → ensureTable T o ≡ some r
-refused-first T r e o = go (isOpen T) (wellFormed T) e
-  where
-    go : (a b : Bool) → ensure a NotOpen (ensure b NotWellFormed none) ≡ some r → ensure a NotOpen (ensure b NotWellFormed o) ≡ some r
-    go true true e = never cc
-    go true false e = e
-    go false b e = e
-
 -- A join is refused nothing exactly when the two can be joined.
 pub join-iff : (F S : List ℕ) → (joinRefusal F S ≡ none) ↔ Joins F S
 unfolding joinRefusal
@@ -71,17 +59,17 @@ join-iff F S = (to, of)
         record { first = a .0; second = b .0; opening = eqb-true (getD F 0 0) (getD S 0 0) (c .0) }
 
     of : Joins F S → ensureTable F (ensureTable S (ensureSameOpening F S none)) ≡ none
-    of j = behind F (j .first) _ ∙ behind S (j .second) _ ∙ ap (λ (b : Bool). ensure b DifferentOpenings none) (eq-eqb (getD F 0 0) (getD S 0 0) (j .opening))
+    of j = behind-valid F (j .first) _ ∙ behind-valid S (j .second) _ ∙ ap (λ (b : Bool). ensure b DifferentOpenings none) (eq-eqb (getD F 0 0) (getD S 0 0) (j .opening))
 
 -- ---- what is answered
 
 first-judged : (F S : List ℕ) (r : Refusal) → ensureTable F none ≡ some r → joinAnswer F S ≡ Refused r
 unfolding joinAnswer joinRefusal
-first-judged F S r e = rw (refused-first F r e (ensureTable S (ensureSameOpening F S none))) refl
+first-judged F S r e = rw (table-group F .refuses r e (ensureTable S (ensureSameOpening F S none))) refl
 
 second-judged : (F S : List ℕ) (r : Refusal) → ValidTable F → ensureTable S none ≡ some r → joinAnswer F S ≡ Refused r
 unfolding joinAnswer joinRefusal
-second-judged F S r p e = rw (behind F p (ensureTable S (ensureSameOpening F S none)), refused-first S r e (ensureSameOpening F S none)) refl
+second-judged F S r p e = rw (behind-valid F p (ensureTable S (ensureSameOpening F S none)), table-group S .refuses r e (ensureSameOpening F S none)) refl
 
 -- A table is refused with 5 or 6, or not at all.
 not-seventeen : (T : List ℕ) (o : Option Refusal) → ensureTable T o ≡ some DifferentOpenings → ValidTable T × (o ≡ some DifferentOpenings)
@@ -113,7 +101,7 @@ openings-differ F S = (to, of)
 
     of : ValidTable F × ValidTable S × (getD F 0 0 ≢ getD S 0 0)
         → joinAnswerOf (ensureTable F (ensureTable S (ensureSameOpening F S none))) (Joined (newAdds engine F (heldContacts S))) ≡ Refused DifferentOpenings
-    of (p, q, d) = rw (behind F p (ensureTable S (ensureSameOpening F S none)), behind S q (ensureSameOpening F S none), ne-eqb (getD F 0 0) (getD S 0 0) d) refl
+    of (p, q, d) = rw (behind-valid F p (ensureTable S (ensureSameOpening F S none)), behind-valid S q (ensureSameOpening F S none), ne-eqb (getD F 0 0) (getD S 0 0) d) refl
 
 -- Two tables that can be joined are, with as many new contacts as the adds give, and are left as these leave them.
 joined-answer : (F S : List ℕ) → Joins F S → joinAnswer F S ≡ Joined (newAdds engine F (heldContacts S))

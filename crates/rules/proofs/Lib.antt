@@ -3,6 +3,7 @@ pub mod Decode
 pub mod Sound
 pub mod Changes
 pub mod Judged
+pub mod Groups
 pub mod CountedExamples
 pub mod Counted
 pub mod Laid

@@ -1,6 +1,7 @@
 -- `judge_add` meets its contract: its groups, one after the other.
 use Rattle.rules.specs.Adding.{addRefusal}
-use Rattle.checks.proofs.Judged.{table-group, pair-group, chained}
+use Rattle.rules.proofs.Groups.{table-group, pair-group}
+use Rattle.checks.proofs.Judged.{chained}
 use borrow.Author.Needs.{needs}
 use Rattle.call_checks.proofs.judge_add.Statement.{statement}
 use Rattle.call_checks.proofs.judge_add.Tie as tie

@@ -1,6 +1,7 @@
 -- `judge_chain` meets its contract: its groups, one after the other.
 use Rattle.rules.specs.Chains.{chainRefusal}
-use Rattle.checks.proofs.Judged.{table-group, pair-group, window-group, chained}
+use Rattle.rules.proofs.Groups.{table-group, pair-group, window-group}
+use Rattle.checks.proofs.Judged.{chained}
 use borrow.Author.Needs.{needs}
 use Rattle.call_checks.proofs.judge_chain.Statement.{statement}
 use Rattle.call_checks.proofs.judge_chain.Tie as tie

@@ -1,6 +1,7 @@
 -- `judge_connected` meets its contract: its groups, one after the other.
 use Rattle.rules.specs.Questions.{connectedRefusal}
-use Rattle.checks.proofs.Judged.{table-group, chained}
+use Rattle.rules.proofs.Groups.{table-group}
+use Rattle.checks.proofs.Judged.{chained}
 use borrow.Author.Needs.{needs}
 use Rattle.call_checks.proofs.judge_connected.Statement.{statement}
 use Rattle.call_checks.proofs.judge_connected.Tie as tie

@@ -3,7 +3,8 @@ use mathlib.Core.Path.{ap₂}
 use lib.Dec.{eqb}
 use Rattle.rules.specs.declared.Refusal.the-variants.{DifferentOpenings}
 use Rattle.rules.specs.Joining.{joinRefusal}
-use Rattle.checks.proofs.Judged.{table-group, chained, check-as}
+use Rattle.rules.proofs.Groups.{table-group}
+use Rattle.checks.proofs.Judged.{chained, check-as}
 use borrow.Author.Needs.{needs}
 use Rattle.call_checks.proofs.judge_join.Statement.{statement}
 use Rattle.call_checks.proofs.judge_join.Tie as tie

@@ -1,6 +1,7 @@
 -- `judge_moment` meets its contract: its groups, one after the other.
 use Rattle.rules.specs.Questions.{momentRefusal}
-use Rattle.checks.proofs.Judged.{table-group, pair-group, chained}
+use Rattle.rules.proofs.Groups.{table-group, pair-group}
+use Rattle.checks.proofs.Judged.{chained}
 use borrow.Author.Needs.{needs}
 use Rattle.call_checks.proofs.judge_moment.Statement.{statement}
 use Rattle.call_checks.proofs.judge_moment.Tie as tie

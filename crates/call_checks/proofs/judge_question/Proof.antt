@@ -1,5 +1,6 @@
 -- `judge_question` meets its contract: its groups, one after the other.
-use Rattle.checks.proofs.Judged.{pair-group, chained}
+use Rattle.rules.proofs.Groups.{pair-group}
+use Rattle.checks.proofs.Judged.{chained}
 use borrow.Author.Needs.{needs}
 use Rattle.call_checks.proofs.judge_question.Statement.{statement}
 use Rattle.call_checks.proofs.judge_question.Tie as tie

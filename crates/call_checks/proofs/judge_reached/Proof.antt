@@ -3,7 +3,8 @@ use lib.Dec.{ltb}
 use Rattle.rules.specs.declared.Refusal.the-variants.{NoSuchAnimal}
 use Rattle.rules.specs.Layout.{animals}
 use Rattle.rules.specs.Questions.{reachedRefusal}
-use Rattle.checks.proofs.Judged.{table-group, one-check, chained}
+use Rattle.rules.proofs.Groups.{table-group, one-check}
+use Rattle.checks.proofs.Judged.{chained}
 use borrow.Author.Needs.{needs}
 use Rattle.call_checks.proofs.judge_reached.Statement.{statement}
 use Rattle.call_checks.proofs.judge_reached.Tie as tie

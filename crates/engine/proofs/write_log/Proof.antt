@@ -11,7 +11,8 @@ use Rattle.rules.specs.declared.WriteAnswer.the-variants.{Written}
 use Rattle.rules.specs.Answers.{ensure}
 use Rattle.rules.specs.Logs.{heldContacts, writeRefusal, writeAnswer, writeLeaves}
 use Rattle.rules.specs.Checks.{ValidTable}
-use Rattle.checks.proofs.Judged.{table-group, verdict-refused, table-valid, behind-valid}
+use Rattle.rules.proofs.Groups.{table-group, behind-valid}
+use Rattle.checks.proofs.Judged.{verdict-refused, table-valid}
 use borrow.Author.Needs.{needs}
 use Rattle.engine.proofs.write_log.Statement.{statement}
 use Rattle.engine.proofs.write_log.Tie as tie

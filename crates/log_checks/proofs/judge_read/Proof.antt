@@ -4,7 +4,8 @@ use lib.ListN.{length}
 use Rattle.rules.specs.declared.Refusal.the-variants.{NotALog, WrongLength}
 use Rattle.rules.specs.Layout.{tableLength, animals, ticks}
 use Rattle.rules.specs.Reading.{isLog, between, readRefusal}
-use Rattle.checks.proofs.Judged.{one-check, chained, check-as}
+use Rattle.rules.proofs.Groups.{one-check}
+use Rattle.checks.proofs.Judged.{chained, check-as}
 use Rattle.log_checks.proofs.Logged.{words-group}
 use borrow.Author.Needs.{needs}
 use Rattle.log_checks.proofs.judge_read.Statement.{statement}

@@ -4,7 +4,8 @@ use mathlib.Core.Option.{none}
 use Rattle.rules.specs.Adding.{ensurePair}
 use Rattle.rules.specs.Windows.{ensureWindow}
 use Rattle.rules.specs.Questions.{reachRefusal, reachAnswer}
-use Rattle.checks.proofs.Judged.{table-group, verdict-refused, table-valid}
+use Rattle.rules.proofs.Groups.{table-group}
+use Rattle.checks.proofs.Judged.{verdict-refused, table-valid}
 use borrow.Author.Needs.{needs}
 use Rattle.questions.proofs.reach.Statement.{statement}
 use Rattle.questions.proofs.reach.Tie as tie

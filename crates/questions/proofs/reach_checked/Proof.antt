@@ -5,7 +5,8 @@ use Rattle.rules.specs.Adding.{ensurePair}
 use Rattle.rules.specs.Windows.{ensureWindow}
 use Rattle.rules.specs.Questions.{reachRefusal, reachAnswer}
 use Rattle.rules.proofs.Asked.{PairOf, pair-behind}
-use Rattle.checks.proofs.Judged.{behind-valid, verdict-refused, verdict-passed}
+use Rattle.rules.proofs.Groups.{behind-valid}
+use Rattle.checks.proofs.Judged.{verdict-refused, verdict-passed}
 use borrow.Author.Needs.{needs}
 use Rattle.questions.proofs.reach_checked.Statement.{statement}
 use Rattle.questions.proofs.reach_checked.Tie as tie

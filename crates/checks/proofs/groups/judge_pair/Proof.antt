@@ -5,7 +5,8 @@ use Prim.Native.Nat.{ℕ}
 use lib.Dec.{ltb}
 use Rattle.rules.specs.declared.Refusal.the-variants.{NoSuchAnimal}
 use Rattle.rules.specs.Layout.{animals}
-use Rattle.checks.proofs.Judged.{one-check, chained, check-as, animals-read}
+use Rattle.rules.proofs.Groups.{one-check}
+use Rattle.checks.proofs.Judged.{chained, check-as, animals-read}
 use borrow.Author.Needs.{needs}
 use Rattle.checks.proofs.groups.judge_pair.Statement.{statement}
 use Rattle.checks.proofs.groups.judge_pair.Tie as tie

@@ -1,7 +1,8 @@
 -- `groups::judge_window` meets its contract: the range, then the order.
 use Rattle.rules.specs.declared.Refusal.the-variants.{TickOutOfRange}
 use Rattle.rules.specs.Windows.{windowInRange}
-use Rattle.checks.proofs.Judged.{one-check, chained, check-as}
+use Rattle.rules.proofs.Groups.{one-check}
+use Rattle.checks.proofs.Judged.{chained, check-as}
 use borrow.Author.Needs.{needs}
 use Rattle.checks.proofs.groups.judge_window.Statement.{statement}
 use Rattle.checks.proofs.groups.judge_window.Tie as tie
