@@ -143,20 +143,31 @@ pub stepped-turn : {n s : ℕ} {c : CellPlace} {k : ℕ} → Stepped n s c k →
 unfolding cellAfter
 stepped-turn {n} {s} {c} {k} w e = record { is = e ∙ ap (nextCell n s) (w .is) ∙ rw (add-one k) refl }
 
--- The next cell c: its animals are two of the n, a step can be made from it, it ends inside the words, and it is lent as it stands, with its property.
-pub record AtCell (P : List ℕ → Type 0) (n s : ℕ) (body : List ℕ) (c : CellPlace) : Type 0 where
+-- Cell c, which is cell k and the next: one is left, its animals are two of the n, it ends inside the words, it is lent as it stands, with its property, and a
+-- step can be made from it.
+pub record AtCell (P : List ℕ → Type 0) (n s : ℕ) (body : List ℕ) (c : CellPlace) (k : ℕ) : Type 0 where
+  pub left : k < n * n
   pub from-below : c .from < n
   pub to-below : c .to < n
-  pub bound : (c .at ≤ maxCells * maxCellWords) × (s ≤ maxCellWords)
   pub inside : c .at + s ≤ length body
   pub lent : take (c .at + s - c .at) (drop (c .at) body) ≡ cellIn n s body (c .from) (c .to)
   pub property : P (take (c .at + s - c .at) (drop (c .at) body))
+  pub steps : ((c .at ≤ maxCells * maxCellWords) × (s ≤ maxCellWords)) × ((c .from < n) × (c .to < n))
 
 module _ {P : List ℕ → Type 0} {n s : ℕ} {body : List ℕ} {c : CellPlace} {k : ℕ} (g : Grid P n s body) (w : Stepped n s c k) where
   -- c is cell k where there is an animal.
   named : 0 < n → Named n s k c
   named h = rw (w .is) (after-named n s h k)
 
+  -- Where no cell is left, none begins inside the words.
+  all-passed : n * n ≤ k → length body ≤ c .at
+  all-passed h = go (lt-outcome 0 n)
+    where
+      go : {b : Bool} → Outcome (0 < n) (n ≤ 0) b → length body ≤ c .at
+      go (holds o) = omega (arith, mul-le-mul-right s h, named o .begins, g .long)
+      go (fails o) = omega (arith, g .long, mul-le-mul (mul-le-mul o o) (g .short))
+
+  -- Where one is left, there is an animal.
   some-animal : k < n * n → 0 < n
   some-animal = go n
     where
@@ -164,50 +175,36 @@ module _ {P : List ℕ → Type 0} {n s : ℕ} {body : List ℕ} {c : CellPlace}
       go zero o = absurd (omega (arith, zero-mul 0))
       go (suc m) o = omega arith
 
-  -- A cell is left where c begins inside the words.
-  pub cell-left : c .at < length body → k < n * n
-  cell-left h = go (lt-outcome k (n * n)) (lt-outcome 0 n)
+  -- Where c begins inside the words, it is such a cell.
+  pub at-cell : c .at < length body → AtCell P n s body c k
+  at-cell h = go (lt-outcome k (n * n))
     where
-      none : n ≤ 0 → length body ≤ 0
-      none o = omega (arith, g .long, mul-le-mul (mul-le-mul o o) (g .short))
+      animal : (it : Named n s k c) → k < n * n → {b : Bool} → Outcome (c .from < n) (n ≤ c .from) b → c .from < n
+      animal it o (holds q) = q
+      animal it o (fails q) = absurd (omega (arith, mul-le-mul-right n q, it .number))
 
-      go : {a b : Bool} → Outcome (k < n * n) (n * n ≤ k) a → Outcome (0 < n) (n ≤ 0) b → k < n * n
-      go (holds o) q = o
-      go (fails o) (holds q) = absurd (omega (arith, mul-le-mul-right s o, named q .begins, g .long))
-      go (fails o) (fails q) = absurd (omega (arith, none q))
+      cell : (it : Named n s k c) → k < n * n → c .from < n → AtCell P n s body c k
+      cell it o f =
+          let i : c .at + s ≤ length body = omega (arith, part-inside k (n * n) s o, it .begins, g .long) in
+          let l = cell-lent n s body (c .from) (c .to) (c .at) (it .begins ∙ ap (λ (j : ℕ). j * s) (sym (it .number))) in
+          record {
+            left = o;
+            from-below = f;
+            to-below = it .to-below;
+            inside = i;
+            lent = l;
+            property = grid-lent g (c .from) (c .to) f (it .to-below) l;
+            steps = ((omega (arith, i, g .long, mul-le-mul (grid-few g) (g .short)), g .short), (f, it .to-below));
+          }
 
-  -- None is left where it does not, if a cell has words.
+      go : {b : Bool} → Outcome (k < n * n) (n * n ≤ k) b → AtCell P n s body c k
+      go (holds o) = let it = named (some-animal o) in cell it o (animal it o (lt-outcome (c .from) n))
+      go (fails o) = absurd (omega (arith, all-passed o))
+
+  -- Where it does not, none is left, if a cell has words.
   pub none-left : 1 ≤ s → length body ≤ c .at → n * n ≤ k
   none-left p h = go (lt-outcome k (n * n))
     where
-      go : {a : Bool} → Outcome (k < n * n) (n * n ≤ k) a → n * n ≤ k
+      go : {b : Bool} → Outcome (k < n * n) (n * n ≤ k) b → n * n ≤ k
       go (holds o) = absurd (omega (arith, part-inside k (n * n) s o, named (some-animal o) .begins, g .long))
       go (fails o) = o
-
-  -- As long as a cell is left, the next is such.
-  pub at-cell : k < n * n → AtCell P n s body c
-  at-cell h =
-      record {
-        from-below = from;
-        to-below = it .to-below;
-        bound = (omega (arith, inside, g .long, mul-le-mul (grid-few g) (g .short)), g .short);
-        inside = inside;
-        lent = lent;
-        property = grid-lent g (c .from) (c .to) from (it .to-below) lent;
-      }
-    where
-      it : Named n s k c
-      it = named (some-animal h)
-
-      below : {b : Bool} → Outcome (c .from < n) (n ≤ c .from) b → c .from < n
-      below (holds o) = o
-      below (fails o) = absurd (omega (arith, mul-le-mul-right n o, it .number, h))
-
-      from : c .from < n
-      from = below (lt-outcome (c .from) n)
-
-      inside : c .at + s ≤ length body
-      inside = omega (arith, part-inside k (n * n) s h, it .begins, g .long)
-
-      lent : take (c .at + s - c .at) (drop (c .at) body) ≡ cellIn n s body (c .from) (c .to)
-      lent = cell-lent n s body (c .from) (c .to) (c .at) (it .begins ∙ ap (λ (i : ℕ). i * s) (sym (it .number)))

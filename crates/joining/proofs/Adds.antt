@@ -5,7 +5,7 @@ use mathlib.Core.Option.{none}
 use mathlib.Core.List.{List, [], _∷_, _++_, append-nil, append-assoc, List·Memᴰ, List·Memᴰ·head, Memᴰ·append-left, Memᴰ·append-right}
 use Prim.Native.Nat.{ℕ, _+_, _-_, _*_, _≤_, _<_}
 use native.Mathlib.Omega.{arith}
-use lib.ListN.{length, getD, length-append}
+use lib.ListN.{length, getD, take, drop, length-append}
 use Rattle.journeys.specs.Journey.{Contact, Same}
 use Rattle.words.specs.Words.{animalsOf, ticksOf}
 use Rattle.rules.specs.declared.AddAnswer.{AddAnswer}
@@ -19,9 +19,8 @@ use Rattle.rules.proofs.Judged.{add-iff}
 use Rattle.rules.proofs.Joining.{Joins, joins-legal}
 use Rattle.rules.proofs.AnyOrder.{run-first, run-valid, run-length, run-same, same-number}
 use Rattle.grid.specs.declared.CellPlace.{CellPlace}
-use Rattle.grid.specs.Cells.{cellIn}
 use Rattle.grid.specs.Steps.{firstCell, nextCell}
-use Rattle.grid.proofs.Steps.{Stepped, stepped-start, stepped-turn}
+use Rattle.grid.proofs.Steps.{Stepped, stepped-start, stepped-turn, AtCell}
 use Rattle.tables.proofs.TableRead.{Read}
 use Rattle.cells.specs.Stored.{rowsIn, Stored}
 use Rattle.cells.proofs.Lent.{count-fits}
@@ -201,26 +200,26 @@ pub cells-start : {δ n s : ℕ} (body T : List ℕ) {c : CellPlace} → c ≡ f
 cells-start {δ} {n} {s} body T e = record { passed = 0; stepped = stepped-start n s e; added = added-start _ _ T (cells-all δ n s body e) }
 
 module _ {δ n s : ℕ} {body T₀ T : List ℕ} {new : ℕ} {c : CellPlace} (w : AddedCells δ n s body T₀ T new c) where
-  module _ (h : w .passed < n * n) (lent : List ℕ) (e : lent ≡ cellIn n s body (c .from) (c .to)) where
+  module _ (h : AtCell Stored n s body c (w .passed)) where
     -- The contacts of the next cell, as it is lent.
     abbrev these : List Contact
-    these = cellContacts δ (c .from) (c .to) (cellOf lent)
+    these = cellContacts δ (c .from) (c .to) (cellOf (take (c .at + s - c .at) (drop (c .at) body)))
 
     -- They can be added.
     pub cell-addable : Addable T₀ (gridContacts δ n s body) → Addable T these
-    cell-addable = added-addable (w .added) _ _ (cells-next δ n s body c (w .passed) h refl lent e)
+    cell-addable = added-addable (w .added) _ _ (cells-next δ n s body h refl)
 
     module _ {r : ℕ} (f : r ≡ newAdds engine T these) where
       pub cell-few : Addable T₀ (gridContacts δ n s body) → new + r ≤ maxContacts
-      cell-few = added-few (w .added) _ _ (cells-next δ n s body c (w .passed) h refl lent e) f
+      cell-few = added-few (w .added) _ _ (cells-next δ n s body h refl) f
 
       -- They are added.
       pub cell-turn : {d : CellPlace} → d ≡ nextCell n s c → {U : List ℕ} → U ≡ run engine T these → AddedCells δ n s body T₀ U (new + r) d
-      cell-turn g q =
+      cell-turn e g =
           record {
             passed = w .passed + 1;
-            stepped = stepped-turn (w .stepped) g;
-            added = added-turn (w .added) _ _ (cells-next δ n s body c (w .passed) h g lent e) f q;
+            stepped = stepped-turn (w .stepped) e;
+            added = added-turn (w .added) _ _ (cells-next δ n s body h e) f g;
           }
 
   -- All cells are passed.

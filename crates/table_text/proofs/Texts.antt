@@ -12,10 +12,9 @@ use Rattle.rules.specs.Logs.{heldContacts}
 use Rattle.rules.specs.Sheet.{decimal, space, newline, intervalText, intervalsText, cellText, firstLine, tableText}
 use Rattle.rules.proofs.Folds.{flat-same}
 use Rattle.grid.specs.declared.CellPlace.{CellPlace}
-use Rattle.grid.specs.Cells.{cellIn}
 use Rattle.grid.specs.Steps.{firstCell, nextCell}
 use Rattle.grid.proofs.Places.{cell-in}
-use Rattle.grid.proofs.Steps.{listsFrom, lists-all, lists-next, lists-none, Stepped, stepped-start, stepped-turn}
+use Rattle.grid.proofs.Steps.{listsFrom, lists-all, lists-next, lists-none, Stepped, stepped-start, stepped-turn, AtCell}
 use Rattle.cells.specs.Stored.{rowsIn, Stored}
 use Rattle.cells.proofs.RowLoop.{rowsFrom, RowLoop, rows-all, rows-next, rows-end, rows-count}
 use Rattle.tables.proofs.TableRead.{Read}
@@ -75,16 +74,16 @@ unfolding gridText
 cells-start n s body l e h = record { passed = 0; stepped = stepped-start n s e; writing = start _ l _ (lists-all n s (textIn n s body) e) h }
 
 module _ {n s : ℕ} {body l out : List ℕ} {c : CellPlace} {at : ℕ} (w : WritingCells n s body l out c at) where
-  module _ (h : w .passed < n * n) (lent : List ℕ) (e : lent ≡ cellIn n s body (c .from) (c .to)) where
+  module _ (h : AtCell Stored n s body c (w .passed)) where
     -- The text of the next cell, as it is lent, then that of the cells after it.
     abbrev this : List ℕ
-    this = cellText (c .from) (c .to) (cellOf lent)
+    this = cellText (c .from) (c .to) (cellOf (take (c .at + s - c .at) (drop (c .at) body)))
 
     then-others : (d : CellPlace) → d ≡ nextCell n s c → cellsLeft n s body c (n * n - w .passed) ≡ this ++ cellsLeft n s body d (n * n - (w .passed + 1))
     unfolding textIn
-    then-others d g =
-        lists-next n s (textIn n s body) c (w .passed) h g
-        ∙ ap (λ (x : List ℕ). cellText (c .from) (c .to) (cellOf x) ++ cellsLeft n s body d (n * n - (w .passed + 1))) (sym e)
+    then-others d e =
+        lists-next n s (textIn n s body) c (w .passed) (h .left) e
+        ∙ ap (λ (x : List ℕ). cellText (c .from) (c .to) (cellOf x) ++ cellsLeft n s body d (n * n - (w .passed + 1))) (sym (h .lent))
 
     -- It fits the rest of the list.
     pub cell-fits : length this ≤ length (take (length out - at) (drop at out))
@@ -92,11 +91,11 @@ module _ {n s : ℕ} {body l out : List ℕ} {c : CellPlace} {at : ℕ} (w : Wri
 
     -- It is written.
     pub cell-written : {d : CellPlace} → d ≡ nextCell n s c → (new : List ℕ) (r : ℕ) → r ≡ length this → new ≡ overwriteFront this (take (length out - at) (drop at out)) → WritingCells n s body l (back out at new) d (at + r)
-    cell-written {d} g new r i f =
+    cell-written {d} e new r i f =
         record {
           passed = w .passed + 1;
-          stepped = stepped-turn (w .stepped) g;
-          writing = piece (w .writing) new this _ r (then-others d g) i f;
+          stepped = stepped-turn (w .stepped) e;
+          writing = piece (w .writing) new this _ r (then-others d e) i f;
         }
 
   -- All cells are written.

@@ -1,9 +1,9 @@
 -- `join_cells` meets its contract. The loop's invariant: the contacts of the cells passed are added. The measure is how many words are left.
-use Prim.Native.Nat.{_-_, _*_, _<_}
+use Prim.Native.Nat.{_-_}
 use native.Mathlib.Omega.{arith}
 use borrow.Author.Needs.{needs}
 use lib.ListN.{length}
-use Rattle.grid.proofs.Steps.{next-less, AtCell, cell-left, none-left, at-cell}
+use Rattle.grid.proofs.Steps.{next-less, AtCell, at-cell, none-left}
 use Rattle.cells.specs.Stored.{Stored}
 use Rattle.joining.proofs.Adds.{added-kept, AddedCells, cells-start, cell-addable, cell-few, cell-turn, cells-added}
 use Rattle.joining.proofs.join_cells.Statement.{statement}
@@ -25,38 +25,29 @@ entry c = c .before .before .before .before
 abbrev turn : tie.After-join-cell Inv-loop μ-loop → tie.Then1 Inv-loop μ-loop
 turn c = c .before .before .before
 
--- A cell is left, and it is the next.
-left : (c : tie.Then1 Inv-loop μ-loop) → let n = entry (loop c) .args .n in loop c .loop .inv .passed < n * n
-left c = cell-left (entry (loop c) .pre .0 .2) (loop c .loop .inv .stepped) (c .if1 .taken)
-
-next : (c : tie.Then1 Inv-loop μ-loop) → let g = entry (loop c) .args in AtCell Stored (g .n) (g .size) (g .body .now) (loop c .loop .here)
-next c = at-cell (entry (loop c) .pre .0 .2) (loop c .loop .inv .stepped) (left c)
+-- The next cell.
+next : (c : tie.Then1 Inv-loop μ-loop) → let g = entry (loop c) .args in AtCell Stored (g .n) (g .size) (g .body .now) (loop c .loop .here) (loop c .loop .inv .passed)
+next c = at-cell (entry (loop c) .pre .0 .2) (loop c .loop .inv .stepped) (c .if1 .taken)
 
 join-cell-requires : tie.Need-join-cell-requires Inv-loop μ-loop
 join-cell-requires c κs =
     let t = c .before .before in
     let n = next t in
     let s = entry (loop t) in
-    ((s .pre .0 .0, n .property), cell-addable (loop t .loop .inv) (left t) _ (n .lent) (s .pre .1))
+    ((s .pre .0 .0, n .property), cell-addable (loop t .loop .inv) n (s .pre .1))
 
 add-new : tie.Need-add-new Inv-loop μ-loop
 add-new c =
     let k = c .before .before in
     let t = turn k in
-    let h = cell-few (loop t .loop .inv) (left t) _ (next t .lent) (k .join-cell .ensures .0) (entry (loop t) .pre .1) in
+    let h = cell-few (loop t .loop .inv) (next t) (k .join-cell .ensures .0) (entry (loop t) .pre .1) in
     omega arith
-
-next-cell-requires : tie.Need-next-cell-requires Inv-loop μ-loop
-next-cell-requires c κs = let n = next (turn (c .before .before)) in (n .bound, (n .from-below, n .to-below))
-
-loop-less : tie.Need-loop-less Inv-loop μ-loop
-loop-less c = let t = turn (c .before .before .before) in next-less _ _ _ (c .next-cell .ensures) (t .if1 .taken) (entry (loop t) .pre .0 .1)
 
 loop-again : tie.Need-loop-again Inv-loop μ-loop
 loop-again c =
     let k = c .before .before .before in
     let t = turn k in
-    cell-turn (loop t .loop .inv) (left t) _ (next t .lent) (k .join-cell .ensures .0) (c .next-cell .ensures) (k .join-cell .ensures .1)
+    cell-turn (loop t .loop .inv) (next t) (k .join-cell .ensures .0) (c .next-cell .ensures) (k .join-cell .ensures .1)
 
 returns : tie.Need-returns Inv-loop μ-loop
 returns c =
@@ -70,5 +61,7 @@ join-cells-spec =
     (tie.spec
     Inv-loop μ-loop (λ c κs. search needs) (λ c. cells-start _ _ (c .first-cell .ensures)) (λ c. omega (arith, next (c .before) .inside))
     (λ c. omega (arith, next (c .before) .inside)) (λ c. omega arith) (λ c. omega arith) (λ c. omega (arith, next (c .before) .inside))
-    join-cell-requires add-new next-cell-requires loop-less loop-again (λ c. added-kept (c .before .before .loop .inv .added) (entry (c .before .before) .pre .1))
+    join-cell-requires add-new (λ c κs. next (turn (c .before .before)) .steps)
+    (λ c. let t = turn (c .before .before .before) in next-less _ _ _ (c .next-cell .ensures) (t .if1 .taken) (entry (loop t) .pre .0 .1)) loop-again
+    (λ c. added-kept (c .before .before .loop .inv .added) (entry (c .before .before) .pre .1))
     returns)

@@ -1,10 +1,10 @@
 -- `cell::put_cells` meets its contract. The loop's invariant: the text of the cells passed is written. The measure is how many words are left.
-use Prim.Native.Nat.{_+_, _-_, _*_, _≤_, _<_}
+use Prim.Native.Nat.{_+_, _-_, _≤_}
 use mathlib.Core.Path.{refl}
 use native.Mathlib.Omega.{arith}
 use borrow.Author.Needs.{needs}
 use lib.ListN.{length}
-use Rattle.grid.proofs.Steps.{next-less, AtCell, cell-left, none-left, at-cell}
+use Rattle.grid.proofs.Steps.{next-less, AtCell, at-cell, none-left}
 use Rattle.cells.specs.Stored.{Stored}
 use Rattle.table_text.proofs.Writing.{inside}
 use Rattle.table_text.proofs.Texts.{WritingCells, cells-start, cell-fits, cell-written, cells-written}
@@ -27,31 +27,22 @@ entry c = c .before .before .before .before
 abbrev turn : tie.After-put-cell Inv-loop μ-loop → tie.Then1 Inv-loop μ-loop
 turn c = c .before .before .before
 
--- A cell is left, and it is the next.
-left : (c : tie.Then1 Inv-loop μ-loop) → let n = entry (loop c) .args .n in loop c .loop .inv .passed < n * n
-left c = cell-left (entry (loop c) .pre .0 .1) (loop c .loop .inv .stepped) (c .if1 .taken)
-
-next : (c : tie.Then1 Inv-loop μ-loop) → let g = entry (loop c) .args in AtCell Stored (g .n) (g .size) (g .body .now) (loop c .loop .here)
-next c = at-cell (entry (loop c) .pre .0 .1) (loop c .loop .inv .stepped) (left c)
+-- The next cell.
+next : (c : tie.Then1 Inv-loop μ-loop) → let g = entry (loop c) .args in AtCell Stored (g .n) (g .size) (g .body .now) (loop c .loop .here) (loop c .loop .inv .passed)
+next c = at-cell (entry (loop c) .pre .0 .1) (loop c .loop .inv .stepped) (c .if1 .taken)
 
 put-cell-requires : tie.Need-put-cell-requires Inv-loop μ-loop
-put-cell-requires c κs = let t = c .before .before in let n = next t in (n .property, cell-fits (loop t .loop .inv) (left t) _ (n .lent))
+put-cell-requires c κs = let t = c .before .before in let n = next t in (n .property, cell-fits (loop t .loop .inv) n)
 
 -- The text written ends inside the list.
 ends : (c : tie.After-put-cell Inv-loop μ-loop) → let l = loop (turn c) in l .loop .end + c .put-cell .result ≤ length (entry l .args .out .now)
-ends c = let t = turn c in inside (cell-written (loop t .loop .inv) (left t) _ (next t .lent) refl _ _ (c .put-cell .ensures .0) (c .put-cell .ensures .1) .writing) .1
-
-next-cell-requires : tie.Need-next-cell-requires Inv-loop μ-loop
-next-cell-requires c κs = let n = next (turn (c .before .before)) in (n .bound, (n .from-below, n .to-below))
-
-loop-less : tie.Need-loop-less Inv-loop μ-loop
-loop-less c = let t = turn (c .before .before .before) in next-less _ _ _ (c .next-cell .ensures) (t .if1 .taken) (entry (loop t) .pre .0 .0)
+ends c = let t = turn c in inside (cell-written (loop t .loop .inv) (next t) refl _ _ (c .put-cell .ensures .0) (c .put-cell .ensures .1) .writing) .1
 
 loop-again : tie.Need-loop-again Inv-loop μ-loop
 loop-again c =
     let k = c .before .before .before in
     let t = turn k in
-    cell-written (loop t .loop .inv) (left t) _ (next t .lent) (c .next-cell .ensures) _ _ (k .put-cell .ensures .0) (k .put-cell .ensures .1)
+    cell-written (loop t .loop .inv) (next t) (c .next-cell .ensures) _ _ (k .put-cell .ensures .0) (k .put-cell .ensures .1)
 
 returns : tie.Need-returns Inv-loop μ-loop
 returns c =
@@ -66,5 +57,6 @@ put-cells-spec =
     Inv-loop μ-loop (λ c κs. search needs) (λ c. cells-start _ _ _ _ (c .first-cell .ensures) (c .before .before .before .pre .1))
     (λ c. omega (arith, next c .inside)) (λ c. omega (arith, next c .inside)) (λ c. omega arith) (λ c. omega arith) (λ c. omega (arith, next c .inside))
     (λ c. omega (arith, inside (loop (c .before) .loop .inv .writing))) (λ c. omega (arith, inside (loop (c .before) .loop .inv .writing))) (λ c. search needs)
-    put-cell-requires (λ c. omega (arith, ends (c .before .before))) next-cell-requires loop-less loop-again
+    put-cell-requires (λ c. omega (arith, ends (c .before .before))) (λ c κs. next (turn (c .before .before)) .steps)
+    (λ c. let t = turn (c .before .before .before) in next-less _ _ _ (c .next-cell .ensures) (t .if1 .taken) (entry (loop t) .pre .0 .0)) loop-again
     (λ c. c .before .before .loop .inv .writing .kept) returns)
