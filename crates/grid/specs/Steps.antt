@@ -9,8 +9,8 @@ use Rattle.grid.specs.declared.CellPlace.{CellPlace}
 unfoldable pub firstCell : CellPlace
 firstCell = record { at = 0; from = 0; to = 0 }
 
--- The cell after c, where a cell has s words: it begins where c ends, and its pair is the next of c's pair among n animals,
--- to the next animal, or where there is none, from the next animal to animal 0.
+-- The cell after c, where a cell has s words and there are n animals: it begins where c ends, and of its pair the second number is
+-- counted on, or, where that was the last animal, the first is counted on and the second starts anew at 0.
 unfoldable pub nextCell : ℕ → ℕ → CellPlace → CellPlace
 nextCell n s c =
     let more = ltb (c .to + 1) n in
@@ -21,6 +21,6 @@ unfoldable pub cellAfter : ℕ → ℕ → ℕ → CellPlace
 cellAfter n s zero = firstCell
 cellAfter n s (suc k) = nextCell n s (cellAfter n s k)
 
--- The cell after k steps is the k-th: where n cells lie from each animal before the next, after u·n + v steps it is that of (u, v).
+-- After k steps from (0, 0) the pair of cell k is named, and where the cell begins: cell (u, v) is that of number u·n + v.
 unfoldable pub NamesEveryCell : Type 0
 NamesEveryCell = (n s u v : ℕ) → v < n → cellAfter n s (u * n + v) ≡ record { at = (u * n + v) * s; from = u; to = v }
