@@ -86,8 +86,10 @@ fn log_writing_is_in_three_crates() {
 
 #[test]
 fn log_writing_divides_by_written_numbers_only() {
-    assert_eq!(divisors(&code_of("logs")), Vec::<String>::new());
-    assert_eq!(divisors(&code_of("grid")), Vec::<String>::new());
+    // The exported call, the call below it with its reply, and the passes with the step do not divide at all.
+    for name in ["herd_ffi", "engine", "replies", "logs", "grid"] {
+        assert_eq!(divisors(&code_of(name)), Vec::<String>::new(), "{name}");
+    }
     let fields = divisors(&code_of("words"));
     assert!(!fields.is_empty());
     for divisor in fields {
