@@ -4,7 +4,6 @@ pub mod groups;
 
 ghost use mathlib.Core.Path.{_≡_};
 ghost use mathlib.Core.Option.{none};
-ghost use lib.ListN.{length};
 ghost use Rattle.rules.specs.Answers.{numberOf};
 ghost use Rattle.rules.specs.Checks.{ensureTable};
 ghost use Rattle.rules.specs.Opening.{openRefusal};
@@ -41,6 +40,7 @@ pub fn number_of(refusal: Refusal) -> u32
         Refusal::LogBufferTooShort => 15,
         Refusal::TallyFull => 16,
         Refusal::DifferentOpenings => 17,
+        Refusal::IllegalStay => 18,
     }
 }
 

@@ -7,12 +7,14 @@ ghost use Rattle.rules.specs.Adding.{addAnswer, addLeaves};
 ghost use Rattle.rules.specs.Logs.{writeAnswer, writeLeaves};
 ghost use Rattle.rules.specs.Reading.{readAnswer, readLeaves};
 ghost use Rattle.rules.specs.Joining.{joinAnswer, joinLeaves};
+ghost use Rattle.rules.specs.Stays.{staysAnswer, staysLeaves};
 use checks::Verdict;
 use rules::AddAnswer;
 use rules::JoinAnswer;
 use rules::OpenAnswer;
 use rules::ReadAnswer;
 use rules::Refusal;
+use rules::StaysAnswer;
 use rules::WriteAnswer;
 use tables::Opening;
 
@@ -66,6 +68,22 @@ pub fn join(first: &mut [u32], second: &[u32]) -> JoinAnswer
         Verdict::Passed => {
             let new = joining::join_held(first, second);
             JoinAnswer::Joined(new)
+        }
+    }
+}
+
+// Adds the contacts of the stays, four words to a record: two different animals in the same pen at a shared tick met at that
+// tick, both ways. Answers how many contacts were new to the table. Refuses with 5, 6, 18.
+pub fn add_stays(table: &mut [u32], stays: &[u32]) -> StaysAnswer
+    ensures { λ r. ⌜ r ≡ staysAnswer (now (table .entry)) (now (stays .entry)) ⌝ }
+    ensures { λ _. ⌜ now (table .exit) ≡ staysLeaves (now (table .entry)) (now (stays .entry)) ⌝ }
+{
+    let verdict = stay_checks::judge_stays(table, stays);
+    match verdict {
+        Verdict::Refused(r) => StaysAnswer::Refused(r),
+        Verdict::Passed => {
+            let new = stays::add_stays(table, stays);
+            StaysAnswer::Added(new)
         }
     }
 }

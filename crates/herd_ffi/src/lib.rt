@@ -2,12 +2,13 @@
 // 32 bits say which answer, the lower 32 its number: 0 is a refusal with its number; 1 and 2 are the answers of the call.
 ghost use mathlib.Core.Path.{_≡_};
 ghost use Rattle.journeys.specs.Journey.{contact};
-ghost use Rattle.rules.specs.Answers.{openReply, addReply, writeReply, readReply, joinReply, askReply, intervalReply, setReply, chainReply};
+ghost use Rattle.rules.specs.Answers.{openReply, addReply, writeReply, readReply, joinReply, staysReply, askReply, intervalReply, setReply, chainReply};
 ghost use Rattle.rules.specs.Opening.{openAnswer, openLeaves};
 ghost use Rattle.rules.specs.Adding.{addAnswer, addLeaves};
 ghost use Rattle.rules.specs.Logs.{writeAnswer, writeLeaves};
 ghost use Rattle.rules.specs.Reading.{readAnswer, readLeaves};
 ghost use Rattle.rules.specs.Joining.{joinAnswer, joinLeaves};
+ghost use Rattle.rules.specs.Stays.{staysAnswer, staysLeaves};
 ghost use Rattle.rules.specs.Questions.{reachAnswer, earliestAnswer, latestAnswer, connectedAnswer, reachedAnswer, reachedCount, reachedLeaves};
 ghost use Rattle.rules.specs.Chains.{chainAnswer, chainLeaves};
 ghost use Rattle.rules.specs.Claims.{claimedAnswer};
@@ -37,6 +38,15 @@ pub extern "C" fn herd_join(first: &mut [u32], second: &[u32]) -> u64
     ensures { λ _. ⌜ now (first .exit) ≡ joinLeaves (now (first .entry)) (now (second .entry)) ⌝ }
 {
     replies::of_join(engine::join(first, second))
+}
+
+// Adds the contacts of stays, four words to a record: 1 added, with the number of contacts new to the table, 0 refused.
+#[no_mangle]
+pub extern "C" fn herd_stays(table: &mut [u32], stays: &[u32]) -> u64
+    ensures { λ r. ⌜ r ≡ staysReply (staysAnswer (now (table .entry)) (now (stays .entry))) ⌝ }
+    ensures { λ _. ⌜ now (table .exit) ≡ staysLeaves (now (table .entry)) (now (stays .entry)) ⌝ }
+{
+    replies::of_stays(engine::add_stays(table, stays))
 }
 
 // Reads a log into a table: 1 read, with the number of different contacts, 0 refused.

@@ -2,7 +2,7 @@
 // lower 32. The words of a set are written where the caller lends room for them.
 ghost use mathlib.Core.Path.{_≡_};
 ghost use Prim.Native.Nat.{_<_, _^_};
-ghost use Rattle.rules.specs.Answers.{reply, numberOf, openReply, addReply, writeReply, readReply, joinReply, askReply, intervalReply, setReply, chainReply, listReply, recordReply};
+ghost use Rattle.rules.specs.Answers.{reply, numberOf, openReply, addReply, writeReply, readReply, joinReply, staysReply, askReply, intervalReply, setReply, chainReply, listReply, recordReply};
 ghost use Rattle.rules.specs.Questions.{setOver};
 ghost use Rattle.replies.specs.Sets.{setLeaves};
 use rules::AddAnswer;
@@ -17,6 +17,7 @@ use rules::ReadAnswer;
 use rules::RecordAnswer;
 use rules::Refusal;
 use rules::SetAnswer;
+use rules::StaysAnswer;
 use rules::WriteAnswer;
 
 // A reply: which answer, and its number.
@@ -81,6 +82,16 @@ pub fn of_join(answer: JoinAnswer) -> u64
     match answer {
         JoinAnswer::Joined(new) => reply_of(1, new),
         JoinAnswer::Refused(r) => refused(r),
+    }
+}
+
+// Of stays: 1 added, with the number of contacts new to the table.
+pub fn of_stays(answer: StaysAnswer) -> u64
+    ensures { λ r. ⌜ r ≡ staysReply answer ⌝ }
+{
+    match answer {
+        StaysAnswer::Added(new) => reply_of(1, new),
+        StaysAnswer::Refused(r) => refused(r),
     }
 }
 

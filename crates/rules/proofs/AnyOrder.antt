@@ -13,7 +13,7 @@ use Rattle.journeys.proofs.Tests.{untrue}
 use Rattle.journeys.proofs.AnyOrder.{same-contacts, stands-after}
 use Rattle.rules.specs.declared.Refusal.{Refusal}
 use Rattle.rules.specs.declared.AddAnswer.the-variants.{New, Known}
-use Rattle.rules.specs.Answers.{addAnswerOf}
+use Rattle.rules.specs.Answers.{unless, addAnswerOf}
 use Rattle.rules.specs.Layout.{animals, ticks, cellsOf}
 use Rattle.rules.specs.Checks.{ValidTable}
 use Rattle.rules.specs.Adding.{Legal, cellsChanged, addRefusal, addedCells, addAnswer, addLeaves}
@@ -77,6 +77,11 @@ module _ (T : List ℕ) (p : ValidTable T) where
   pub run-length : (A : List Contact) → length (run engine T A) ≡ length T
   run-length A = laid-length (run-laid A (valid-laid T p) .laid) ∙ sym (laid-length (valid-laid T p))
 
+  -- So does one that a refusal may keep from being made.
+  pub unless-valid : (A : List Contact) (o : Option Refusal) → ValidTable (unless o (run engine T A) T)
+  unless-valid A none = run-valid A
+  unless-valid A (some r) = p
+
   -- After one legal contact the table holds it and what it held before.
   add-held : (k : Contact) → Legal (animals T) (ticks T) k → (c : Contact) → List·Memᴰ c (heldContacts (addLeaves T k)) ↔ (List·Memᴰ c (heldContacts T) ⊎ (c ≡ k))
   unfolding run
@@ -107,12 +112,17 @@ module _ (T : List ℕ) (p : ValidTable T) where
           omega arith
 
       taken : Legal (animals T) (ticks T) k → (b : Bool) → Adding.holds T k ≡ b → length (heldContacts (addLeaves T k)) ≡ newOne (cond b (Known m) (New m)) + length (heldContacts T)
-      taken l true e = omega (arith, known l (held-iff T k .1 (record { from-below = l .from-below; to-below = l .to-below; from-one = l .from-one; to-last = l .to-last; stands = e })))
-      taken l false e = new l (λ h. untrue (sym e ∙ held-iff T k .0 h .stands))
+      taken l true e = omega (arith, known l (held-iff T k .1 (record { from-below = l .from-below; to-below = l .to-below; from-one = l .from-one; to-last = l .to-last; passes = e })))
+      taken l false e = new l (λ h. untrue (sym e ∙ held-iff T k .0 h .passes))
 
       go : (o : Option Refusal) → addRefusal T k ≡ o → length (heldContacts (addLeaves T k)) ≡ newOne (addAnswerOf o (cond (Adding.holds T k) (Known m) (New m))) + length (heldContacts T)
       go none e = taken (add-iff T k .0 e .1) (Adding.holds T k) refl
       go (some r) e = omega (arith, ap (λ (L : List ℕ). length (heldContacts L)) (refused-leaves T k r e))
+
+-- A list of calls that a refusal may keep from being made keeps the table's length.
+pub unless-length : (T : List ℕ) (A : List Contact) (o : Option Refusal) → (o ≡ none → ValidTable T) → length (unless o (run engine T A) T) ≡ length T
+unless-length T A none p = run-length T (p refl) A
+unless-length T A (some r) p = refl
 
 -- A list of calls leaves as many contacts more as were new.
 pub run-count : (A : List Contact) (T : List ℕ) → ValidTable T → length (heldContacts (run engine T A)) ≡ newAdds engine T A + length (heldContacts T)

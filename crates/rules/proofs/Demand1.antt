@@ -47,6 +47,7 @@ use Rattle.rules.proofs.Judged.{ensure-iff, unless-cases, open-iff, add
 use Rattle.rules.proofs.Fresh.{add-good, empty-good, fresh-length, fresh-passes}
 use Rattle.rules.proofs.Runs.{run-fresh}
 use Rattle.rules.proofs.Joining.{join-kept, join-length, join-valid}
+use Rattle.rules.proofs.Stays.{stays-kept, stays-length, stays-valid}
 use Rattle.rules.proofs.Reading.{Readable, read-iff, read-opens, log-length}
 use Rattle.rules.proofs.Counted.{counted-cases}
 
@@ -355,6 +356,7 @@ demand1 =
       write-refused = write-kept;
       read-refused = read-kept;
       join-refused = join-kept;
+      stays-refused = stays-kept;
       reached-refused = reached-kept;
       reached-empty = reached-empty;
       chain-refused = chain-kept;
@@ -368,6 +370,7 @@ demand1 =
       write-length = write-length;
       read-length = read-length;
       join-length = join-length;
+      stays-length = stays-length;
       counted-length = counted-length;
       list-length = list-length;
       reached-length = reached-length;
@@ -376,6 +379,7 @@ demand1 =
       read-valid = read-valid;
       add-valid = add-valid;
       join-valid = join-valid;
+      stays-valid = stays-valid;
       counted-valid = counted-valid;
       legal-accepted = legal-accepted;
       legal-counted = legal-counted;

@@ -2,15 +2,14 @@
 use mathlib.Core.Path.{_≡_, refl, sym, ap, ap₂, _∙_, subst}
 use mathlib.Core.Logic.{_↔_, _⊎_, inl, inr, ⊎-elim, _≢_}
 use mathlib.Core.Bool.{Bool, true, false, cond, _&&_, _||_, and-eq-true-iff, false≢true}
-use mathlib.Core.List.{List, [], _∷_, _++_, map, List·Memᴰ, List·Memᴰ·head, List·Memᴰ·tail, List·Memᴰ·not-nil, List·Memᴰ·cases-cons, Memᴰ·append-left, Memᴰ·append-right, List·Memᴰ·append-cases}
+use mathlib.Core.List.{List, [], _∷_, _++_, map, append-nil, append-assoc, List·Memᴰ, List·Memᴰ·head, List·Memᴰ·tail, List·Memᴰ·not-nil, List·Memᴰ·cases-cons, Memᴰ·append-left, Memᴰ·append-right, List·Memᴰ·append-cases}
 use Prim.Native.Nat.{ℕ, zero, suc, _+_, _-_, _*_, _≤_, _<_}
 use native.Mathlib.Nat.{mul-le-mul-right, suc-mul, zero-mul, mul-assoc, add-mul, le-of-eq}
 use native.Mathlib.Omega.{arith}
 use lib.ListN.{length, take, drop, length-append, length-drop, take-append-drop}
 use lib.Seq.{take-all, take-append-le, drop-append-le, drop-at, drop-drop, take-add}
-use lib.Dec.{ltb}
-use Rattle.journeys.proofs.Tests.{Outcome, holds, fails, lt-outcome, or-outcome}
-use Rattle.rules.specs.Folds.{flat, allBelow, sumBelow, countBelow}
+use Rattle.journeys.proofs.Tests.{untrue, Outcome, holds, fails, lt-outcome, or-outcome}
+use Rattle.rules.specs.Folds.{flat, allBelow, sumBelow, countBelow, anyOf}
 
 -- ---- tests
 
@@ -22,6 +21,10 @@ and-right a b e = and-eq-true-iff a b .0 e .1
 
 pub and-intro : (a b : Bool) → a ≡ true → b ≡ true → (a && b) ≡ true
 and-intro a b p q = and-eq-true-iff a b .1 (p, q)
+
+-- Both tests pass exactly when what they say holds.
+pub both-iff : {P Q : Type 0} {a b : Bool} → (a ≡ true) ↔ P → (b ≡ true) ↔ Q → ((a && b) ≡ true) ↔ (P × Q)
+both-iff {a = a} {b = b} p q = (λ e. (p .0 (and-left a b e), q .0 (and-right a b e)), λ h. and-intro a b (p .1 (h .0)) (q .1 (h .1)))
 
 -- A test that means P passes exactly when P holds.
 pub passes-iff : {P : Type 0} {b : Bool} → Outcome P (¬ P) b → (b ≡ true) ↔ P
@@ -220,3 +223,50 @@ map-agree f g (b ∷ l) e a m =
     let p : f b ≡ g b = cc in
     let q : map f l ≡ map g l = cc in
     ⊎-elim (λ h. subst (λ c. f c ≡ g c) (sym h) p) (map-agree f g l q a) (List·Memᴰ·cases-cons m)
+
+-- ---- the parts from one on
+
+-- f i, f (i + 1), .., k of them, one after the other.
+unfoldable pub flatFrom : {A : Type 0} → (ℕ → List A) → ℕ → ℕ → List A
+flatFrom f i zero = []
+flatFrom f i (suc k) = f i ++ flatFrom f (i + 1) k
+
+flat-then-from : {A : Type 0} (f : ℕ → List A) (i k : ℕ) → flat f i ++ flatFrom f i k ≡ flat f (i + k)
+unfolding flat flatFrom
+flat-then-from f i zero = append-nil (flat f i) ∙ ap (flat f) (let e : i ≡ i + 0 = omega arith in e)
+flat-then-from {A} f i (suc k) =
+    sym (append-assoc (flat f i) (f i) (flatFrom f (i + 1) k))
+    ∙ ap (λ (l : List A). l ++ flatFrom f (i + 1) k) (ap (flat f) (let e : suc i ≡ i + 1 = omega arith in e))
+    ∙ flat-then-from f (i + 1) k ∙ ap (flat f) (let e : i + 1 + k ≡ i + suc k = omega arith in e)
+
+-- All m parts are left at 0, one fewer after each, and none at m.
+pub from-all : {A : Type 0} (f : ℕ → List A) (m : ℕ) → flatFrom f 0 (m - 0) ≡ flat f m
+unfolding flat
+from-all f m = flat-then-from f 0 (m - 0) ∙ ap (flat f) (let e : 0 + (m - 0) ≡ m = omega arith in e)
+
+pub from-next : {A : Type 0} (f : ℕ → List A) (m i : ℕ) → i < m → flatFrom f i (m - i) ≡ f i ++ flatFrom f (i + 1) (m - (i + 1))
+unfolding flatFrom
+from-next f m i h = ap (flatFrom f i) (let e : m - i ≡ suc (m - (i + 1)) = omega arith in e)
+
+pub from-none : {A : Type 0} (f : ℕ → List A) (m i : ℕ) → m ≤ i → flatFrom f i (m - i) ≡ []
+unfolding flatFrom
+from-none f m i h = ap (flatFrom f i) (let e : m - i ≡ 0 = omega arith in e)
+
+-- ---- a test over a list
+
+-- Some element passes the test exactly when one of the list does.
+pub any-iff : {A : Type 0} (p : A → Bool) (l : List A) → (anyOf p l ≡ true) ↔ ((a : A) × List·Memᴰ a l × (p a ≡ true))
+unfolding anyOf
+any-iff p [] = (λ e. untrue e, λ h. absurd (List·Memᴰ·not-nil (h .1)))
+any-iff {A} p (b ∷ l) = let r = any-iff p l in (to (p b) refl (r .0), of (r .1))
+  where
+    to : (t : Bool) → p b ≡ t → (anyOf p l ≡ true → (a : A) × List·Memᴰ a l × (p a ≡ true)) → (t || anyOf p l) ≡ true → (a : A) × List·Memᴰ a (b ∷ l) × (p a ≡ true)
+    to true e f h = (b, List·Memᴰ·head refl, e)
+    to false e f h = let r = f h in (r .0, List·Memᴰ·tail (r .1), r .2)
+
+    later : (t : Bool) → anyOf p l ≡ true → (t || anyOf p l) ≡ true
+    later true h = refl
+    later false h = h
+
+    of : ((a : A) × List·Memᴰ a l × (p a ≡ true) → anyOf p l ≡ true) → (a : A) × List·Memᴰ a (b ∷ l) × (p a ≡ true) → (p b || anyOf p l) ≡ true
+    of f (a, m, e) = ⊎-elim (λ q. ap (λ t. t || anyOf p l) (subst (λ x. p x ≡ true) q e)) (λ q. later (p b) (f (a, q, e))) (List·Memᴰ·cases-cons m)

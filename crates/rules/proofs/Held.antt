@@ -1,8 +1,8 @@
 -- The contacts that a table holds: which they are, that they are listed in order, and how many they can be.
-use mathlib.Core.Path.{_≡_, refl, sym, ap, _∙_, subst}
-use mathlib.Core.Logic.{_↔_, inl, inr, _≢_}
-use mathlib.Core.Bool.{Bool, true, false, cond}
-use mathlib.Core.List.{List, [], _∷_, List·Memᴰ, List·Memᴰ·head, List·Memᴰ·not-nil}
+use mathlib.Core.Path.{_≡_, refl, ap, _∙_, subst}
+use mathlib.Core.Logic.{_↔_, _≢_}
+use mathlib.Core.Bool.{Bool, true}
+use mathlib.Core.List.{List, [], List·Memᴰ, List·Memᴰ·not-nil}
 use Prim.Native.Nat.{ℕ, _+_, _-_, _*_, _≤_, _<_}
 use native.Mathlib.Nat.{mul-le-mul-left}
 use native.Mathlib.Omega.{arith}
@@ -11,151 +11,52 @@ use Rattle.journeys.specs.Journey.{Contact, contact, Contacts, interval}
 use Rattle.journeys.specs.Adding.{Cells}
 use Rattle.journeys.proofs.Theorems.{contacts-stand}
 use Rattle.rules.specs.Limits.{maxContacts, maxChain}
-use Rattle.rules.specs.Folds.{flat}
 use Rattle.rules.specs.Layout.{animals, ticks, carry, cellsOf}
 use Rattle.rules.specs.Checks.{ValidTable}
 use Rattle.rules.specs.Adding.{Legal, stands}
 use Rattle.rules.specs.Adding as Adding
-use Rattle.rules.specs.Logs.{held, heldContacts}
+use Rattle.rules.specs.Logs.{heldContacts}
 use Rattle.rules.specs.Fresh.{Fresh}
 use Rattle.rules.specs.Orders.{Sorted, Earlier}
-use Rattle.rules.proofs.Folds.{passes-iff, flat-few, flat-skip, flat-member, member-flat}
+use Rattle.rules.proofs.Folds.{passes-iff}
 use Rattle.rules.proofs.Sound.{table-sizes, passes-good}
 use Rattle.rules.proofs.Changes.{stands-outcome}
 use Rattle.rules.proofs.Laid.{Laid, laid-animals, laid-ticks, laid-carry, laid-cells, valid-laid}
 use Rattle.rules.proofs.Fresh.{fresh-laid}
 use Rattle.rules.proofs.Distinct.{Once}
-use Rattle.rules.proofs.Sorted.{sorted-flat, sorted-one, member-one, sorted-once, earlier-irreflexive, earlier-transitive}
+use Rattle.rules.proofs.LogOrder.{order-sorted, order-once, Listed, order-iff, order-few}
 
 module _ (T : List ℕ) where
-  -- The contacts of tick t and animal u.
-  abbrev row : ℕ → ℕ → List Contact
-  row t u = flat (λ v. held T (contact u v (t + 1))) (animals T)
-
-  -- The contacts of tick t.
-  abbrev rows : ℕ → List Contact
-  rows t = flat (row t) (animals T)
-
-  -- Where a listed contact stands.
-  record At (t : ℕ) (k : Contact) : Type 0 where
-    pub from-below : k .from < animals T
-    pub to-below : k .to < animals T
-    pub tick-is : k .tick ≡ t + 1
-    pub stands : Adding.holds T k ≡ true
-
-  held-at : (u v t : ℕ) (k : Contact) → List·Memᴰ k (held T (contact u v (t + 1))) → (k ≡ contact u v (t + 1)) × (Adding.holds T k ≡ true)
-  unfolding held
-  held-at u v t k m = let r = member-one (Adding.holds T (contact u v (t + 1))) (contact u v (t + 1)) k m in (r .0, subst (λ c. Adding.holds T c ≡ true) (sym (r .0)) (r .1))
-
-  row-at : (t u : ℕ) (k : Contact) → u < animals T → List·Memᴰ k (row t u) → (k .from ≡ u) × At t k
-  row-at t u k h m =
-      let r = member-flat (λ v. held T (contact u v (t + 1))) (animals T) m in
-      let e = held-at u (r .0) t k (r .2) in
-      let f = ap (λ c. c .from) (e .0) in
-      let g = ap (λ c. c .to) (e .0) in
-      (f, record { from-below = omega arith; to-below = omega (arith, r .1); tick-is = ap (λ c. c .tick) (e .0); stands = e .1 })
-
-  rows-at : (t : ℕ) (k : Contact) → List·Memᴰ k (rows t) → At t k
-  rows-at t k m = let r = member-flat (row t) (animals T) m in row-at t (r .0) k (r .1) (r .2) .1
-
-  held-sorted-one : (k : Contact) → Sorted Earlier (held T k)
-  unfolding held
-  held-sorted-one k = sorted-one Earlier (Adding.holds T k) k
-
-  row-sorted : (t u : ℕ) → Sorted Earlier (row t u)
-  row-sorted t u = sorted-flat Earlier (λ v. held T (contact u v (t + 1))) (animals T) (λ v h. held-sorted-one (contact u v (t + 1))) order
-    where
-      order : (i j : ℕ) → i < j → j < animals T → (a b : Contact) → List·Memᴰ a (held T (contact u i (t + 1))) → List·Memᴰ b (held T (contact u j (t + 1))) → Earlier a b
-      order i j o h a b p q =
-          let e = held-at u i t a p .0 in
-          let f = held-at u j t b q .0 in
-          let g = ap (λ c. c .to) e in
-          let l = ap (λ c. c .to) f in
-          inr (ap (λ c. c .tick) e ∙ sym (ap (λ c. c .tick) f), inr (ap (λ c. c .from) e ∙ sym (ap (λ c. c .from) f), omega arith))
-
-  rows-sorted : (t : ℕ) → Sorted Earlier (rows t)
-  rows-sorted t = sorted-flat Earlier (row t) (animals T) (λ u h. row-sorted t u) order
-    where
-      order : (i j : ℕ) → i < j → j < animals T → (a b : Contact) → List·Memᴰ a (row t i) → List·Memᴰ b (row t j) → Earlier a b
-      order i j o h a b p q =
-          let e = row-at t i a (omega arith) p in
-          let f = row-at t j b h q in
-          inr (e .1 .tick-is ∙ sym (f .1 .tick-is), inl (omega (arith, e .0, f .0)))
-
   -- The contacts are listed by t, then u, then v, each once.
   pub held-sorted : Sorted Earlier (heldContacts T)
   unfolding heldContacts
-  held-sorted = sorted-flat Earlier rows (ticks T) (λ t h. rows-sorted t) order
-    where
-      order : (i j : ℕ) → i < j → j < ticks T → (a b : Contact) → List·Memᴰ a (rows i) → List·Memᴰ b (rows j) → Earlier a b
-      order i j o h a b p q = inl (omega (arith, rows-at i a p .tick-is, rows-at j b q .tick-is))
+  held-sorted = order-sorted (animals T) (ticks T) (Adding.holds T)
 
   -- No contact is listed twice.
   pub held-once : Once (heldContacts T)
-  held-once = sorted-once Earlier earlier-irreflexive earlier-transitive (heldContacts T) held-sorted
+  unfolding heldContacts
+  held-once = order-once (animals T) (ticks T) (Adding.holds T)
 
   -- Which contacts are listed.
-  pub record Listed (k : Contact) : Type 0 where
-    pub from-below : k .from < animals T
-    pub to-below : k .to < animals T
-    pub from-one : 1 ≤ k .tick
-    pub to-last : k .tick ≤ ticks T
-    pub stands : Adding.holds T k ≡ true
+  pub held-iff : (k : Contact) → List·Memᴰ k (heldContacts T) ↔ Listed (animals T) (ticks T) (Adding.holds T) k
+  unfolding heldContacts
+  held-iff = order-iff (animals T) (ticks T) (Adding.holds T)
 
-  pub held-iff : (k : Contact) → List·Memᴰ k (heldContacts T) ↔ Listed k
-  unfolding heldContacts held
-  held-iff k = (to, of)
-    where
-      to : List·Memᴰ k (heldContacts T) → Listed k
-      to m =
-          let r = member-flat rows (ticks T) m in
-          let a = rows-at (r .0) k (r .2) in
-          record { from-below = a .from-below; to-below = a .to-below; from-one = omega (arith, a .tick-is); to-last = omega (arith, a .tick-is, r .1); stands = a .stands }
+-- n·(n−1)·τ contacts, and the two other words of their log, are fewer than the end word's field can say.
+pub pairs-few : (T : List ℕ) {m : ℕ} → m ≤ ticks T * (animals T * (animals T - 1)) → m + 2 < maxContacts
+pairs-few T {m} h =
+    let z = table-sizes T in
+    let n = animals T in
+    let h₂ : n - 1 ≤ maxChain = omega (arith, z .n-high) in
+    let a : n * (n - 1) ≤ n * maxChain = mul-le-mul-left n h₂ in
+    let b : n * (n - 1) ≤ 65280 = omega (arith, z .n-high) in
+    let c : ticks T * (n * (n - 1)) ≤ ticks T * 65280 = mul-le-mul-left (ticks T) b in
+    omega (arith, z .τ-high)
 
-      of : Listed k → List·Memᴰ k (heldContacts T)
-      of l =
-          let t : ℕ = k .tick - 1 in
-          let e : t + 1 ≡ k .tick = omega (arith, l .from-one) in
-          flat-member rows (ticks T) t (omega (arith, l .from-one, l .to-last))
-          (flat-member (row t) (animals T) (k .from) (l .from-below)
-          (flat-member (λ v. held T (contact (k .from) v (t + 1))) (animals T) (k .to) (l .to-below)
-          (subst (λ s. List·Memᴰ k (held T (contact (k .from) (k .to) s))) (sym e) (here (l .stands)))))
-        where
-          here : Adding.holds T k ≡ true → List·Memᴰ k (held T k)
-          here e = subst (λ b. List·Memᴰ k (cond b (k ∷ []) [])) (sym e) (List·Memᴰ·head refl)
-
--- ---- how many
-
--- A contact is held once or not at all.
-held-at-most : (b : Bool) (k : Contact) → length (cond b (k ∷ []) []) ≤ 1
-held-at-most true k = omega arith
-held-at-most false k = omega arith
-
--- The words of a log are fewer than the end word's field can say: a table holds no more than n·(n−1)·τ contacts.
+-- A table holds no more than n·(n−1)·τ contacts.
 pub held-few : (T : List ℕ) → ValidTable T → length (heldContacts T) + 2 < maxContacts
-unfolding heldContacts held Adding.holds
-held-few T p = last (flat-few (rows T) (n * (n - 1)) τ (λ t h. flat-few (row T t) (n - 1) n (λ u k. one-row t u k)))
-  where
-    n : ℕ
-    n = animals T
-
-    τ : ℕ
-    τ = ticks T
-
-    one-row : (t u : ℕ) → u < n → length (row T t u) ≤ n - 1
-    one-row t u h =
-        let e : length (held T (contact u u (t + 1))) ≡ 0 = rw (passes-good T p .diagonal u h) (unfold stands in refl) in
-        let a = flat-skip (λ v. held T (contact u v (t + 1))) u n h (λ v. held-at-most (Adding.holds T (contact u v (t + 1))) (contact u v (t + 1))) e in
-        omega arith
-
-    last : {m : ℕ} → m ≤ τ * (n * (n - 1)) → m + 2 < maxContacts
-    last {m} h =
-        let z = table-sizes T in
-        let h₂ : n - 1 ≤ maxChain = omega (arith, z .n-high) in
-        let a : n * (n - 1) ≤ n * maxChain = mul-le-mul-left n h₂ in
-        let b : n * (n - 1) ≤ 65280 = omega (arith, z .n-high) in
-        let c : τ * (n * (n - 1)) ≤ τ * 65280 = mul-le-mul-left τ b in
-        omega (arith, z .τ-high)
+unfolding heldContacts Adding.holds
+held-few T p = pairs-few T (order-few (animals T) (ticks T) (Adding.holds T) (λ u t h. rw (passes-good T p .diagonal u h) (unfold stands in refl)))
 
 -- ---- on a table laid out from well-formed cells
 
@@ -178,7 +79,7 @@ module _ {n τ δ : ℕ} {C : Cells} {T : List ℕ} (f : Laid n τ δ C T) where
           let l = held-iff T k .0 m in
           let a : k .from < n = omega (arith, l .from-below, laid-animals f) in
           let b : k .to < n = omega (arith, l .to-below, laid-animals f) in
-          let s = laid-holds k a b .0 (l .stands) in
+          let s = laid-holds k a b .0 (l .passes) in
           (record { from-below = a; to-below = b; apart = own-apart k s; from-one = l .from-one; to-last = omega (arith, l .to-last, laid-ticks f) }, s)
 
       of : Legal n τ k × List·Memᴰ (interval (k .tick) (k .tick + δ)) (C (k .from) (k .to)) → List·Memᴰ k (heldContacts T)
@@ -189,7 +90,7 @@ module _ {n τ δ : ℕ} {C : Cells} {T : List ℕ} (f : Laid n τ δ C T) where
             to-below = omega (arith, l .to-below, laid-animals f);
             from-one = l .from-one;
             to-last = omega (arith, l .to-last, laid-ticks f);
-            stands = laid-holds k (l .from-below) (l .to-below) .1 m;
+            passes = laid-holds k (l .from-below) (l .to-below) .1 m;
           })
 
 -- The contacts listed of a table that passes 5 and 6 are legal for it.

@@ -3,19 +3,19 @@ use mathlib.Core.Path.{_≡_, refl, sym, ap, _∙_, subst}
 use mathlib.Core.Logic.{_↔_, _⊎_, inl, inr, ⊎-elim, _≢_}
 use mathlib.Core.Bool.{Bool, true, false}
 use mathlib.Core.Option.{Option, none, some}
-use mathlib.Core.List.{List, [], _++_, List·Memᴰ, Memᴰ·append-left, Memᴰ·append-right, List·Memᴰ·append-cases}
-use Prim.Native.Nat.{ℕ, _≤_}
+use mathlib.Core.List.{List, [], List·Memᴰ}
+use Prim.Native.Nat.{ℕ}
 use native.Mathlib.Omega.{arith}
-use lib.ListN.{length, getD, length-append}
+use lib.ListN.{length, getD}
 use lib.Dec.{eqb}
 use borrow.Author.Tests.{eq-eqb, ne-eqb, eqb-true, eqb-false}
 use Rattle.journeys.specs.Journey.{Contact, Contacts, In, Union}
-use Rattle.journeys.proofs.Tests.{never, Outcome, holds, fails}
+use Rattle.journeys.proofs.Tests.{never}
 use Rattle.words.specs.Words.{animalsOf, ticksOf}
 use Rattle.rules.specs.declared.Refusal.{Refusal}
 use Rattle.rules.specs.declared.Refusal.the-variants.{NotOpen, NotWellFormed, DifferentOpenings}
 use Rattle.rules.specs.declared.JoinAnswer.the-variants.{Joined, Refused}
-use Rattle.rules.specs.Answers.{ensure, joinAnswerOf}
+use Rattle.rules.specs.Answers.{ensure, unless, joinAnswerOf}
 use Rattle.rules.specs.Layout.{animals, ticks}
 use Rattle.rules.specs.Checks.{isOpen, wellFormed, ValidTable, ensureTable}
 use Rattle.rules.specs.Adding.{Legal}
@@ -25,18 +25,17 @@ use Rattle.rules.specs.CallLists.{engine, run, newAdds}
 use Rattle.rules.specs.Orders.{Earlier}
 use Rattle.rules.specs.Joining.{ensureSameOpening, joinRefusal, joinAnswer, joinLeaves}
 use Rattle.rules.specs.JoinRule.{JoinCounts, JoinRule}
-use Rattle.rules.proofs.Judged.{ensure-iff, unless-cases}
+use Rattle.rules.proofs.Judged.{ensure-iff}
 use Rattle.rules.proofs.Asked.{valid-behind}
 use Rattle.rules.proofs.Groups.{table-group, behind-valid}
 use Rattle.rules.proofs.Laid.{laid-first}
 use Rattle.rules.proofs.Fresh.{fresh-laid, fresh-animals, fresh-ticks, fresh-passes, fresh-map, fresh-unique}
-use Rattle.rules.proofs.Reading.{comesIn-outcome}
 use Rattle.rules.proofs.Sorted.{earlier-irreflexive, earlier-transitive, sorted-once}
-use Rattle.rules.proofs.Distinct.{Once, once-append, once-short}
-use Rattle.rules.proofs.Without.{without, without-iff, without-sorted}
-use Rattle.rules.proofs.Held.{held-sorted, held-once, held-legal, fresh-held}
+use Rattle.rules.proofs.Distinct.{once-short}
+use Rattle.rules.proofs.Held.{held-sorted, held-legal, fresh-held}
 use Rattle.rules.proofs.Runs.{run-union}
-use Rattle.rules.proofs.AnyOrder.{run-held, run-valid, run-length, run-count}
+use Rattle.rules.proofs.AnyOrder.{unless-valid, unless-length}
+use Rattle.rules.proofs.NewContacts.{number-same, list-held, list-new}
 
 -- ---- when a join is refused
 
@@ -112,10 +111,6 @@ pub joined-leaves : (F S : List ℕ) → Joins F S → joinLeaves F S ≡ run en
 unfolding joinLeaves
 joined-leaves F S j = rw (join-iff F S .1 j) refl
 
-pub refused-join : (F S : List ℕ) (r : Refusal) → joinRefusal F S ≡ some r → joinLeaves F S ≡ F
-unfolding joinLeaves
-refused-join F S r e = rw e refl
-
 joined-exactly : (F S : List ℕ) → ((m : ℕ) × (joinAnswer F S ≡ Joined m)) ↔ (ValidTable F × ValidTable S × (getD F 0 0 ≡ getD S 0 0))
 unfolding joinAnswer
 joined-exactly F S = (to, λ h. let j : Joins F S = record { first = h .0; second = h .1; opening = h .2 } in (newAdds engine F (heldContacts S), joined-answer F S j))
@@ -135,47 +130,10 @@ module _ (F S : List ℕ) (j : Joins F S) where
   joins-legal k m = subst (λ w. Legal (animalsOf w) (ticksOf w) k) (sym (j .opening)) (held-legal S (j .second) k m)
 
   joined-held : (k : Contact) → List·Memᴰ k (heldContacts (run engine F (heldContacts S))) ↔ (List·Memᴰ k (heldContacts F) ⊎ List·Memᴰ k (heldContacts S))
-  joined-held k =
-      let r = run-held F (j .first) (heldContacts S) k in
-      (λ m. ⊎-elim inl (λ h. inr (h .0)) (r .0 m), ⊎-elim (λ m. r .1 (inl m)) (λ m. r .1 (inr (m, joins-legal k m))))
-
-  -- The second's contacts that the first does not hold.
-  abbrev notHeld : List Contact
-  notHeld = without (heldContacts F) (heldContacts S)
-
-  -- They are those by which the first then holds more.
-  not-held-number : newAdds engine F (heldContacts S) ≡ length notHeld
-  not-held-number = omega (arith, run-count (heldContacts S) F (j .first), length-append (heldContacts F) notHeld, most, least)
-    where
-      after : List Contact
-      after = heldContacts (run engine F (heldContacts S))
-
-      iff : (k : Contact) → List·Memᴰ k notHeld ↔ (List·Memᴰ k (heldContacts S) × (¬ List·Memᴰ k (heldContacts F)))
-      iff = without-iff (heldContacts F) (heldContacts S)
-
-      once : Once (heldContacts F ++ notHeld)
-      once =
-          once-append (heldContacts F) notHeld (held-once F)
-          (sorted-once Earlier earlier-irreflexive earlier-transitive notHeld (without-sorted (heldContacts F) (heldContacts S) (held-sorted S))) (λ k p q. iff k .0 q .1 p)
-
-      split : (k : Contact) {b : Bool} → Outcome (List·Memᴰ k (heldContacts F)) (¬ List·Memᴰ k (heldContacts F)) b → List·Memᴰ k (heldContacts S) → List·Memᴰ k (heldContacts F ++ notHeld)
-      split k (holds h) m = Memᴰ·append-left notHeld h
-      split k (fails d) m = Memᴰ·append-right (heldContacts F) (iff k .1 (m, d))
-
-      most : length after ≤ length (heldContacts F ++ notHeld)
-      most = once-short after (heldContacts F ++ notHeld) (held-once _) (λ k m. ⊎-elim (Memᴰ·append-left notHeld) (split k (comesIn-outcome k (heldContacts F))) (joined-held k .0 m))
-
-      least : length (heldContacts F ++ notHeld) ≤ length after
-      least = once-short (heldContacts F ++ notHeld) after once (λ k m. joined-held k .1 (⊎-elim inl (λ q. inr (iff k .0 q .0)) (List·Memᴰ·append-cases (heldContacts F) m)))
+  joined-held = list-held F (j .first) (heldContacts S) joins-legal
 
   joined-counts : JoinCounts F S (λ k. List·Memᴰ k (heldContacts S) × (¬ List·Memᴰ k (heldContacts F)))
-  joined-counts =
-      record {
-        contacts = notHeld;
-        once = without-sorted (heldContacts F) (heldContacts S) (held-sorted S);
-        those = without-iff (heldContacts F) (heldContacts S);
-        number = joined-answer F S j ∙ ap Joined not-held-number;
-      }
+  joined-counts = record { new = newAdds engine F (heldContacts S); answered = joined-answer F S j; number = list-new F (j .first) (heldContacts S) joins-legal (held-sorted S) }
 
 new-to-first : (F S : List ℕ) → ValidTable F → ValidTable S → getD F 0 0 ≡ getD S 0 0
     → JoinCounts F S (λ k. List·Memᴰ k (heldContacts S) × (¬ List·Memᴰ k (heldContacts F)))
@@ -189,9 +147,10 @@ both-held F S p q e k = let j : Joins F S = record { first = p; second = q; open
 equal-none : (T : List ℕ) → ValidTable T → joinAnswer T T ≡ Joined 0
 equal-none T p =
     let a = new-to-first T T p p refl in
-    let h = once-short (a .contacts) [] (sorted-once Earlier earlier-irreflexive earlier-transitive (a .contacts) (a .once)) (λ k m. let q = a .those k .0 m in absurd (q .1 (q .0))) in
-    let e : length (a .contacts) ≡ 0 = omega arith in
-    a .number ∙ ap Joined e
+    let c = a .number in
+    let h = once-short (c .contacts) [] (sorted-once Earlier earlier-irreflexive earlier-transitive (c .contacts) (c .once)) (λ k m. let q = c .those k .0 m in absurd (q .1 (q .0))) in
+    let e : a .new ≡ 0 = omega (arith, c .number) in
+    a .answered ∙ ap Joined e
 
 -- ---- tables built by adds
 
@@ -213,13 +172,15 @@ module _ {n τ δ : ℕ} {P Q : Contacts} {F S : List ℕ} (f : Fresh n τ δ P 
   new-to-set =
       let a = joined-counts F S fresh-joins in
       record {
-        contacts = a .contacts;
-        once = a .once;
-        those = λ k. (
-          λ m. let h = a .those k .0 m in (fresh-held g k .0 (h .0), λ p. h .1 (fresh-held f k .1 p)),
-          λ h. a .those k .1 (fresh-held g k .1 (h .0), λ m. h .1 (fresh-held f k .0 m)),
-        );
-        number = a .number;
+        new = a .new;
+        answered = a .answered;
+        number =
+            number-same
+            (λ k. (
+              λ h. (fresh-held g k .0 (h .0), λ p. h .1 (fresh-held f k .1 p)),
+              λ h. (fresh-held g k .1 (h .0), λ m. h .1 (fresh-held f k .0 m)),
+            ))
+            (a .number);
       }
 
 either-way : {n τ δ : ℕ} {P Q : Contacts} {F S : List ℕ} → Fresh n τ δ P F → Fresh n τ δ Q S → joinLeaves F S ≡ joinLeaves S F
@@ -247,17 +208,18 @@ join-rule =
 
 -- ---- demand 1
 
--- By cases: refused and as it was, or joined by adds.
-join-cases : (F S : List ℕ) (P : Option Refusal → List ℕ → Type 0) → ((r : Refusal) → P (some r) F) → (Joins F S → P none (run engine F (heldContacts S))) → P (joinRefusal F S) (joinLeaves F S)
-unfolding joinLeaves
-join-cases F S P a b = unless-cases (joinRefusal F S) P (λ r e. a r) (λ e. b (join-iff F S .0 e))
-
 pub join-kept : (F S : List ℕ) (r : Refusal) → joinAnswer F S ≡ Refused r → joinLeaves F S ≡ F
-unfolding joinAnswer
-join-kept F S r = join-cases F S (λ o L. joinAnswerOf o (Joined (newAdds engine F (heldContacts S))) ≡ Refused r → L ≡ F) (λ s e. refl) (λ j e. never cc)
+unfolding joinAnswer joinLeaves
+join-kept F S r = go (joinRefusal F S)
+  where
+    go : (o : Option Refusal) → joinAnswerOf o (Joined (newAdds engine F (heldContacts S))) ≡ Refused r → unless o (run engine F (heldContacts S)) F ≡ F
+    go none e = never cc
+    go (some q) e = refl
 
 pub join-length : (F S : List ℕ) → length (joinLeaves F S) ≡ length F
-join-length F S = join-cases F S (λ o L. length L ≡ length F) (λ r. refl) (λ j. run-length F (j .first) (heldContacts S))
+unfolding joinLeaves
+join-length F S = unless-length F (heldContacts S) (joinRefusal F S) (λ e. join-iff F S .0 e .first)
 
 pub join-valid : (F S : List ℕ) → ValidTable F → ValidTable (joinLeaves F S)
-join-valid F S p = join-cases F S (λ o L. ValidTable L) (λ r. p) (λ j. run-valid F p (heldContacts S))
+unfolding joinLeaves
+join-valid F S p = unless-valid F p (heldContacts S) (joinRefusal F S)

@@ -15,11 +15,14 @@ pub mod Asked
 pub mod Answered
 pub mod EarliestLatest
 pub mod Sorted
+pub mod LogOrder
 pub mod Held
 pub mod Runs
 pub mod AnyOrder
 pub mod Without
+pub mod NewContacts
 pub mod Joining
+pub mod Stays
 pub mod Demand3
 pub mod TableCalls
 pub mod LogsRead
@@ -39,5 +42,6 @@ pub mod Claims
 pub mod Session
 pub mod LogExamples
 pub mod JoinExamples
+pub mod StayExamples
 pub mod ListRule
 pub mod Promised

@@ -7,6 +7,7 @@ use Rattle.rules.proofs.LogsRead.{logs-read}
 use Rattle.rules.proofs.CountedCalls.{counted-rule}
 use Rattle.rules.proofs.AnyOrder.{any-order}
 use Rattle.rules.proofs.Joining.{join-rule}
+use Rattle.rules.proofs.Stays.{stay-rule}
 use Rattle.rules.proofs.TableCalls.{table-calls}
 use Rattle.rules.proofs.ListRule.{list-rule, list-examples}
 use Rattle.rules.proofs.EarliestLatest.{stored-answers}
@@ -16,6 +17,7 @@ use Rattle.rules.proofs.SheetRule.{sheet-rule}
 use Rattle.rules.proofs.Examples.{marked-hold, worked-hold}
 use Rattle.rules.proofs.LogExamples.{logs-answered}
 use Rattle.rules.proofs.JoinExamples.{joins-worked}
+use Rattle.rules.proofs.StayExamples.{stays-worked}
 use Rattle.rules.proofs.Session.{session-printed}
 use Rattle.rules.proofs.Determined.{determined}
 use Rattle.rules.proofs.DeterminedAnswers.{determined-answers}
@@ -32,6 +34,7 @@ promised =
       counted-rule = counted-rule;
       any-order = any-order;
       join-rule = join-rule;
+      stay-rule = stay-rule;
       table-calls = table-calls;
       list-rule = list-rule;
       stored-answers = stored-answers;
@@ -42,6 +45,7 @@ promised =
       worked-hold = worked-hold;
       logs-answered = logs-answered;
       joins-worked = joins-worked;
+      stays-worked = stays-worked;
       list-examples = list-examples;
       session-printed = session-printed;
       determined = determined;

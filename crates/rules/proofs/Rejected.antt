@@ -1,6 +1,6 @@
 -- Each wrong engine goes wrong on a list of calls, so it does not meet demand 3, nor demand 2 where its tables store wrong intervals.
 use mathlib.Core.Path.{_≡_, refl, sym, ap, subst}
-use mathlib.Core.Logic.{_↔_, _⊎_, inl, ⊎-elim}
+use mathlib.Core.Logic.{_↔_, inl, ⊎-elim}
 use mathlib.Core.List.{List, [], _∷_, List·Memᴰ, List·Memᴰ·head, List·Memᴰ·tail, List·Memᴰ·cases-cons, List·Memᴰ·not-nil}
 use Prim.Native.Nat.{ℕ, suc, _+_}
 use native.Mathlib.Omega.{arith}
@@ -18,9 +18,9 @@ use Rattle.rules.specs.Layout.{cellWords, tableWords, cellAt, cellOf, ce
 use Rattle.rules.specs.Checks.{isOpen, rowWellFormed, rowsWellFormed, allUnused, cellWellFormed, wellFormed}
 use Rattle.rules.specs.Opening.{openRefusal, openAnswer, openLeaves}
 use Rattle.rules.specs.Adding.{Legal, stands, sameCell, cellsChanged, addRefusal, addedCells, holds, addAnswer, addLeaves}
-use Rattle.rules.specs.Logs.{held, heldContacts, logWords, writeRefusal, writeAnswer, writeLeaves}
+use Rattle.rules.specs.Logs.{heldContacts, logWords, writeRefusal, writeAnswer, writeLeaves}
 use Rattle.rules.specs.CallLists.{Engine, engine, run, tableAfter, LegalOf}
-use Rattle.rules.specs.Orders.{Sorted, Earlier}
+use Rattle.rules.specs.Orders.{Sorted, Earlier, listed, inLogOrder}
 use Rattle.rules.specs.Windows.{IsPair}
 use Rattle.rules.specs.Demand2.{Questions, questions, StoredIn, Demand2}
 use Rattle.rules.specs.Demand3.{Demand3}
@@ -78,7 +78,7 @@ same-logged : (E : Engine) → Demand3 E → E .open-answer 3 2 1 blank ≡ Open
 same-logged E d p i = ap (λ (l : List ℕ). getD l i 0) (agree E d p twice .log twice twice-sorted twice-legal (replicate 6 0) (omega arith))
 
 pub rejected : Rejected
-unfolding openAnswer openLeaves openRefusal tableWords flat cellWords run addLeaves addAnswer addRefusal isOpen isOf wellFormed allBelow cellWellFormed rowsWellFormed rowWellFormed allUnused cellsOf cellAt cellOf addedCells add departureOf arrivalOf enterBoth enter putInOrder withoutContaining hasInside latestDeparture earliestArrival latestDeparting earliestArriving later sooner stands holds cellsChanged sumBelow countBelow sameCell held heldContacts logWords writeRefusal writeAnswer writeLeaves
+unfolding openAnswer openLeaves openRefusal tableWords flat cellWords run addLeaves addAnswer addRefusal isOpen isOf wellFormed allBelow cellWellFormed rowsWellFormed rowWellFormed allUnused cellsOf cellAt cellOf addedCells add departureOf arrivalOf enterBoth enter putInOrder withoutContaining hasInside latestDeparture earliestArrival latestDeparting earliestArriving later sooner stands holds cellsChanged sumBelow countBelow sameCell inLogOrder listed heldContacts logWords writeRefusal writeAnswer writeLeaves
 rejected =
     record {
       leaves-table = λ d. (let w : _≡_ {A = ℕ} 0xC000_0000 0xC000_0001 = same-word leavesTable d refl (contact 0 2 1 ∷ []) 7 in omega arith);

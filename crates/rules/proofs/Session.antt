@@ -8,7 +8,8 @@ use Rattle.rules.specs.Layout.{cellWords, tableWords, cellAt, cellOf, ce
 use Rattle.rules.specs.Checks.{isOpen, rowWellFormed, rowsWellFormed, allUnused, cellWellFormed, wellFormed}
 use Rattle.rules.specs.Opening.{openRefusal, openLeaves}
 use Rattle.rules.specs.Adding.{stands, addRefusal, addedCells, addLeaves, holds}
-use Rattle.rules.specs.Logs.{held, heldContacts}
+use Rattle.rules.specs.Logs.{heldContacts}
+use Rattle.rules.specs.Orders.{listed, inLogOrder}
 use Rattle.rules.specs.CallLists.{run}
 use Rattle.rules.specs.Reading.{between, loggedContacts, isTrueEnd, isLegal, logWord, ensureWords, readRefusal, readAnswer, readLeaves}
 use Rattle.rules.specs.Sheet.{wordsOf, decimalWithin, intervalText, intervalsText, cellText, firstLine, tableText, isBeyond, logText, sheetText}
@@ -17,7 +18,7 @@ use Rattle.rules.specs.Session.{sessionBytes, sessionText}
 pub session-printed : sheetText sessionBytes ≡ sessionText
 unfolding
     sheetText wordsOf isBeyond logText readAnswer readLeaves readRefusal between loggedContacts isTrueEnd isLegal logWord ensureWords
-    tableText firstLine cellText intervalsText intervalText decimalWithin heldContacts held run openRefusal openLeaves addRefusal addedCells addLeaves holds stands
+    tableText firstLine cellText intervalsText intervalText decimalWithin heldContacts inLogOrder listed run openRefusal openLeaves addRefusal addedCells addLeaves holds stands
     isOpen rowWellFormed rowsWellFormed allUnused cellWellFormed wellFormed flat allBelow cellWords tableWords cellAt cellOf cellsOf isOf add enterBoth departureOf arrivalOf
     later sooner latestDeparting earliestArriving latestDeparture earliestArrival hasInside withoutContaining putInOrder enter
 session-printed = refl

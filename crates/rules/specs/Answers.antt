@@ -4,7 +4,7 @@ use mathlib.Core.Option.{Option, none, some}
 use mathlib.Core.Bool.{Bool, true, false}
 use Rattle.journeys.specs.Journey.{Interval}
 use Rattle.rules.specs.declared.Refusal.{Refusal}
-use Rattle.rules.specs.declared.Refusal.the-variants.{AnimalsBeyondLimit, TicksBeyondLimit, CarryBeyondLimit, WrongLength, NotOpen, NotWellFormed, NoSuchAnimal, SameAnimal, TickOutOfRange, ChainBufferTooShort, NotALog, NotAContact, IllegalContact, WrongEnd, LogBufferTooShort, TallyFull, DifferentOpenings}
+use Rattle.rules.specs.declared.Refusal.the-variants.{AnimalsBeyondLimit, TicksBeyondLimit, CarryBeyondLimit, WrongLength, NotOpen, NotWellFormed, NoSuchAnimal, SameAnimal, TickOutOfRange, ChainBufferTooShort, NotALog, NotAContact, IllegalContact, WrongEnd, LogBufferTooShort, TallyFull, DifferentOpenings, IllegalStay}
 use Rattle.rules.specs.declared.OpenAnswer.{OpenAnswer}
 use Rattle.rules.specs.declared.OpenAnswer.the-variants.{Opened, Refused as OpenRefused}
 use Rattle.rules.specs.declared.AddAnswer.{AddAnswer}
@@ -15,6 +15,8 @@ use Rattle.rules.specs.declared.ReadAnswer.{ReadAnswer}
 use Rattle.rules.specs.declared.ReadAnswer.the-variants.{Read, Refused as ReadRefused}
 use Rattle.rules.specs.declared.JoinAnswer.{JoinAnswer}
 use Rattle.rules.specs.declared.JoinAnswer.the-variants.{Joined, Refused as JoinRefused}
+use Rattle.rules.specs.declared.StaysAnswer.{StaysAnswer}
+use Rattle.rules.specs.declared.StaysAnswer.the-variants.{Added, Refused as StaysRefused}
 use Rattle.rules.specs.declared.AskAnswer.{AskAnswer}
 use Rattle.rules.specs.declared.AskAnswer.the-variants.{Yes, No, Refused as AskRefused}
 use Rattle.rules.specs.declared.Ends.{Ends}
@@ -48,6 +50,7 @@ numberOf WrongEnd = 14
 numberOf LogBufferTooShort = 15
 numberOf TallyFull = 16
 numberOf DifferentOpenings = 17
+numberOf IllegalStay = 18
 
 -- ---- which answer each case is, and its number, as one reply: 0 is a refusal with its number, 1 and 2 are the answers of the call
 
@@ -80,6 +83,11 @@ readReply (ReadRefused r) = reply 0 (numberOf r)
 abbrev pub joinReply : JoinAnswer → ℕ
 joinReply (Joined k) = reply 1 k
 joinReply (JoinRefused r) = reply 0 (numberOf r)
+
+-- 1 stays added, with the number of contacts new to the table.
+abbrev pub staysReply : StaysAnswer → ℕ
+staysReply (Added k) = reply 1 k
+staysReply (StaysRefused r) = reply 0 (numberOf r)
 
 -- 1 yes, 2 no.
 abbrev pub askReply : AskAnswer → ℕ
@@ -147,6 +155,10 @@ readAnswerOf (some r) a = ReadRefused r
 abbrev pub joinAnswerOf : Option Refusal → JoinAnswer → JoinAnswer
 joinAnswerOf none a = a
 joinAnswerOf (some r) a = JoinRefused r
+
+abbrev pub staysAnswerOf : Option Refusal → StaysAnswer → StaysAnswer
+staysAnswerOf none a = a
+staysAnswerOf (some r) a = StaysRefused r
 
 -- Yes where the test passes, else no.
 abbrev pub askAnswerOf : Option Refusal → Bool → AskAnswer

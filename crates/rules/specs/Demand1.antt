@@ -15,6 +15,7 @@ use Rattle.rules.specs.declared.AddAnswer.the-variants.{Refused as AddRe
 use Rattle.rules.specs.declared.WriteAnswer.the-variants.{Refused as WriteRefused}
 use Rattle.rules.specs.declared.ReadAnswer.the-variants.{Read, Refused as ReadRefused}
 use Rattle.rules.specs.declared.JoinAnswer.the-variants.{Refused as JoinRefused}
+use Rattle.rules.specs.declared.StaysAnswer.the-variants.{Refused as StaysRefused}
 use Rattle.rules.specs.declared.SetAnswer.the-variants.{Refused as SetRefused}
 use Rattle.rules.specs.declared.ChainAnswer.the-variants.{Refused as ChainRefused}
 use Rattle.rules.specs.Layout.{animals, ticks}
@@ -25,6 +26,7 @@ use Rattle.rules.specs.Logs.{writeAnswer, writeLeaves}
 use Rattle.rules.specs.CallLists.{Accepted}
 use Rattle.rules.specs.Reading.{readAnswer, readLeaves}
 use Rattle.rules.specs.Joining.{joinAnswer, joinLeaves}
+use Rattle.rules.specs.Stays.{staysAnswer, staysLeaves}
 use Rattle.rules.specs.Questions.{reachedAnswer, reachedWords, reachedCount, reachedLeaves}
 use Rattle.rules.specs.Chains.{chainAnswer, chainLeaves}
 use Rattle.rules.specs.Counting.{fullTally, countedAnswer, countedLeaves, countedTally}
@@ -40,6 +42,7 @@ pub record Demand1 : Type 0 where
   pub write-refused : (T B : List ℕ) (r : Refusal) → writeAnswer T B ≡ WriteRefused r → writeLeaves T B ≡ B
   pub read-refused : (L T : List ℕ) (r : Refusal) → readAnswer L T ≡ ReadRefused r → readLeaves L T ≡ T
   pub join-refused : (F S : List ℕ) (r : Refusal) → joinAnswer F S ≡ JoinRefused r → joinLeaves F S ≡ F
+  pub stays-refused : (T W : List ℕ) (r : Refusal) → staysAnswer T W ≡ StaysRefused r → staysLeaves T W ≡ T
   pub chain-refused : (T : List ℕ) (u v first last : ℕ) (B : List ℕ) (r : Refusal) → chainAnswer T u v first last B ≡ ChainRefused r → chainLeaves T u v first last B ≡ B
   pub counted-refused : (t : Tally) (T : List ℕ) (k : Contact) (r : Refusal) → countedAnswer t T k ≡ AddRefused r → countedLeaves t T k ≡ T
   pub reached-refused : (T : List ℕ) (u first last : ℕ) (B : List ℕ) (r : Refusal) → reachedAnswer T u first last ≡ SetRefused r → reachedLeaves T u first last B ≡ B
@@ -49,7 +52,7 @@ pub record Demand1 : Type 0 where
       → countedTally t T k ≡ record { new = t .new; known = t .known; refused = t .refused + 1 }
   pub counted-full : (t : Tally) (T : List ℕ) (k : Contact) → (countedAnswer t T k ≡ AddRefused TallyFull) ↔ (fullTally ≤ t .new + t .known + t .refused)
   pub counted-full-kept : (t : Tally) (T : List ℕ) (k : Contact) → countedAnswer t T k ≡ AddRefused TallyFull → countedTally t T k ≡ t
-  -- The other questions only read, and so does a join with its second table; a refused question for the animals reached gives an empty set.
+  -- The other questions only read, and so do a join its second table and stays their records; a refused question for the animals reached gives an empty set.
   pub reached-empty : (T : List ℕ) (u first last : ℕ) (r : Refusal) → reachedAnswer T u first last ≡ SetRefused r
       → (reachedWords T u first last ≡ replicate 8 0) × (reachedCount T u first last ≡ 0)
   -- The memory lent keeps its ends.
@@ -58,15 +61,18 @@ pub record Demand1 : Type 0 where
   pub write-length : (T B : List ℕ) → length (writeLeaves T B) ≡ length B
   pub read-length : (L T : List ℕ) → length (readLeaves L T) ≡ length T
   pub join-length : (F S : List ℕ) → length (joinLeaves F S) ≡ length F
+  pub stays-length : (T W : List ℕ) → length (staysLeaves T W) ≡ length T
   pub counted-length : (t : Tally) (T : List ℕ) (k : Contact) → length (countedLeaves t T k) ≡ length T
   pub list-length : (T : List ℕ) (l : List Question) → length (listLeaves T l) ≡ length l
   pub reached-length : (T : List ℕ) (u first last : ℕ) (B : List ℕ) → length (reachedLeaves T u first last B) ≡ length B
   pub chain-length : (T : List ℕ) (u v first last : ℕ) (B : List ℕ) → length (chainLeaves T u v first last B) ≡ length B
-  -- Opening, reading a log, and every add to a table that passes 5 and 6, counted or not, and every join into one leave a table that passes them.
+  -- Opening, reading a log, and every add to a table that passes 5 and 6, counted or not, every join into one and every list of stays leave a
+  -- table that passes them.
   pub open-valid : (n τ δ : ℕ) (T : List ℕ) → openAnswer n τ δ T ≡ Opened → ValidTable (openLeaves n τ δ T)
   pub read-valid : (L T : List ℕ) (k : ℕ) → readAnswer L T ≡ Read k → ValidTable (readLeaves L T)
   pub add-valid : (T : List ℕ) (k : Contact) → ValidTable T → ValidTable (addLeaves T k)
   pub join-valid : (F S : List ℕ) → ValidTable F → ValidTable (joinLeaves F S)
+  pub stays-valid : (T W : List ℕ) → ValidTable T → ValidTable (staysLeaves T W)
   pub counted-valid : (t : Tally) (T : List ℕ) (k : Contact) → ValidTable T → ValidTable (countedLeaves t T k)
   -- "Once a table is opened, no legal contact is refused for want of a row": on any table that passes 5 and 6 a legal
   -- contact is accepted, by a counted add too while its tally has room.

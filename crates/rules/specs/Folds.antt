@@ -1,7 +1,7 @@
--- Lists, tests and sums over the numbers below n.
+-- Lists, tests and sums over the numbers below n, and a test over a list.
 use Prim.Native.Nat.{ℕ, zero, suc, _+_}
-use mathlib.Core.Bool.{Bool, true, false, cond, _&&_}
-use mathlib.Core.List.{List, [], _++_}
+use mathlib.Core.Bool.{Bool, true, false, cond, _&&_, _||_}
+use mathlib.Core.List.{List, [], _∷_, _++_}
 use lib.Dec.{leb}
 
 -- f 0, f 1, .., n of them, one after the other.
@@ -27,3 +27,8 @@ countBelow p (suc n) = countBelow p n + cond (p n) 1 0
 -- The number is at least `low` and at most `high`.
 abbrev pub within : ℕ → ℕ → ℕ → Bool
 within low k high = leb low k && leb k high
+
+-- Some element of the list passes the test.
+unfoldable pub anyOf : {A : Type 0} → (A → Bool) → List A → Bool
+anyOf p [] = false
+anyOf p (a ∷ l) = p a || anyOf p l

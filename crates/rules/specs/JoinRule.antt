@@ -4,7 +4,7 @@ use mathlib.Core.Logic.{_↔_, _⊎_, _≢_}
 use mathlib.Core.Option.{none, some}
 use mathlib.Core.List.{List, List·Memᴰ}
 use Prim.Native.Nat.{ℕ}
-use lib.ListN.{length, getD}
+use lib.ListN.{getD}
 use Rattle.journeys.specs.Journey.{Contact, Contacts, In, Union}
 use Rattle.rules.specs.declared.Refusal.{Refusal}
 use Rattle.rules.specs.declared.Refusal.the-variants.{DifferentOpenings}
@@ -12,15 +12,14 @@ use Rattle.rules.specs.declared.JoinAnswer.the-variants.{Joined, Refused
 use Rattle.rules.specs.Checks.{ValidTable, ensureTable}
 use Rattle.rules.specs.Logs.{heldContacts}
 use Rattle.rules.specs.Fresh.{Fresh}
-use Rattle.rules.specs.Orders.{Sorted, Earlier}
+use Rattle.rules.specs.Orders.{NumberOf}
 use Rattle.rules.specs.Joining.{joinAnswer, joinLeaves}
 
--- The join of S into F is answered with the number of the contacts in P, each counted once.
+-- S is joined into F, and the answer is the number of the contacts in P, each counted once.
 pub record JoinCounts (F S : List ℕ) (P : Contacts) : Type 0 where
-  pub contacts : List Contact
-  pub once : Sorted Earlier contacts
-  pub those : (k : Contact) → List·Memᴰ k contacts ↔ P k
-  pub number : joinAnswer F S ≡ Joined (length contacts)
+  pub new : ℕ
+  pub answered : joinAnswer F S ≡ Joined new
+  pub number : NumberOf P new
 
 pub record JoinRule : Type 1 where
   -- 5 and 6 are judged of the first table, whatever the second is, and then of the second;

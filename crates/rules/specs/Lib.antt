@@ -5,13 +5,15 @@ pub mod Layout
 pub mod Opening
 pub mod Checks
 pub mod Adding
+pub mod Orders
 pub mod Logs
 pub mod Fresh
-pub mod Orders
 pub mod CallLists
 pub mod AnyOrder
 pub mod Joining
 pub mod JoinRule
+pub mod Stays
+pub mod StayRule
 pub mod TableCalls
 pub mod Reading
 pub mod Counting
@@ -38,5 +40,6 @@ pub mod WrongAnswers
 pub mod Examples
 pub mod LogExamples
 pub mod JoinExamples
+pub mod StayExamples
 pub mod Session
 pub mod Promised

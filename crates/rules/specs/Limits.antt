@@ -14,6 +14,10 @@ maxTicks = 1024
 abbrev pub maxCarry : ℕ
 maxCarry = 256
 
+-- The pens of stay records are 0 to 63 (document 02, Four).
+abbrev pub maxPen : ℕ
+maxPen = 63
+
 -- Arrivals run to τ+δ.
 abbrev pub maxArrival : ℕ
 maxArrival = maxTicks + maxCarry

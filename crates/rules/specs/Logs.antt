@@ -1,29 +1,24 @@
 -- Writing a log (document 01, "Logs").
-use Prim.Native.Nat.{ℕ, _+_, _-_}
-use mathlib.Core.Bool.{cond}
+use Prim.Native.Nat.{ℕ, _+_}
 use mathlib.Core.Option.{Option, none}
 use mathlib.Core.List.{List, [], _∷_, _++_, map}
 use lib.ListN.{length, getD, drop}
 use lib.Dec.{leb}
-use Rattle.journeys.specs.Journey.{Contact, contact}
+use Rattle.journeys.specs.Journey.{Contact}
 use Rattle.words.specs.Words.{contactWord, endWord}
 use Rattle.rules.specs.declared.Refusal.{Refusal}
 use Rattle.rules.specs.declared.Refusal.the-variants.{LogBufferTooShort}
 use Rattle.rules.specs.declared.WriteAnswer.{WriteAnswer}
 use Rattle.rules.specs.declared.WriteAnswer.the-variants.{Written}
 use Rattle.rules.specs.Answers.{ensure, unless, writeAnswerOf}
-use Rattle.rules.specs.Folds.{flat}
 use Rattle.rules.specs.Layout.{animals, ticks}
 use Rattle.rules.specs.Checks.{ensureTable}
 use Rattle.rules.specs.Adding.{holds}
-
--- The contact, where the table holds it.
-unfoldable pub held : List ℕ → Contact → List Contact
-held T k = cond (holds T k) (k ∷ []) []
+use Rattle.rules.specs.Orders.{inLogOrder}
 
 -- Each contact that the table holds, once, by t, then u, then v.
 unfoldable pub heldContacts : List ℕ → List Contact
-heldContacts T = flat (λ t. flat (λ u. flat (λ v. held T (contact u v (t + 1))) (animals T)) (animals T)) (ticks T)
+heldContacts T = inLogOrder (animals T) (ticks T) (holds T)
 
 -- A log is an opening word, contact words, and an end word with their number.
 unfoldable pub logWords : ℕ → List Contact → List ℕ

@@ -14,16 +14,20 @@ use Rattle.rules.specs.Adding.{Legal, addLeaves}
 use Rattle.rules.specs.Logs.{heldContacts}
 use Rattle.rules.specs.Fresh.{Fresh}
 use Rattle.rules.specs.Joining.{joinLeaves}
+use Rattle.rules.specs.Stays.{staysOf, staysLeaves}
+use Rattle.rules.specs.StayRule.{AreStays, Met}
 
--- A call: the contact that is added, or the words of the second table that is joined.
+-- A call: the contact that is added, the words of the second table that is joined, or the words of the stays whose contacts are added.
 pub data TableCall : Type 0 where
   adding : Contact → TableCall
   joining : List ℕ → TableCall
+  staying : List ℕ → TableCall
 
 -- The table that the call leaves.
 abbrev pub callLeaves : List ℕ → TableCall → List ℕ
 callLeaves T (adding k) = addLeaves T k
 callLeaves T (joining S) = joinLeaves T S
+callLeaves T (staying W) = staysLeaves T W
 
 -- The table that a list of calls leaves, each made on the words that the one before it left.
 unfoldable pub runCalls : List ℕ → List TableCall → List ℕ
@@ -37,10 +41,11 @@ module _ (n τ δ : ℕ) where
     pub opening : getD S 0 0 ≡ openingWord n τ δ
 
   -- The contacts that the call leaves where P was there before: an add puts a legal contact in, a join the contacts held by a table that can be
-  -- joined; a call that is refused leaves P.
+  -- joined, stays the contacts of which two of them say so; a call that is refused leaves P.
   abbrev pub ContactsAfter : Contacts → TableCall → Contacts
   ContactsAfter P (adding k) c = P c ⊎ ((c ≡ k) × Legal n τ k)
   ContactsAfter P (joining S) c = P c ⊎ (List·Memᴰ c (heldContacts S) × Joinable S)
+  ContactsAfter P (staying W) c = P c ⊎ (Met (staysOf W) c × AreStays n τ W)
 
   -- The contacts that a list of calls leaves.
   unfoldable pub ContactsLeft : Contacts → List TableCall → Contacts

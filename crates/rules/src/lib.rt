@@ -20,6 +20,7 @@ pub enum Refusal {
     LogBufferTooShort,
     TallyFull,
     DifferentOpenings,
+    IllegalStay,
 }
 
 // What opening answers.
@@ -50,6 +51,25 @@ pub enum ReadAnswer {
 // What joining a table into another answers: the number of contacts that were new to it.
 pub enum JoinAnswer {
     Joined(u32),
+    Refused(Refusal),
+}
+
+// A stay record: the animal was in the pen from its first tick to its last.
+pub struct Stay {
+    pub animal: u32,
+    pub pen: u32,
+    pub first: u32,
+    pub last: u32,
+}
+
+// The pens are 0 to 63.
+impl Stay {
+    pub const MAX_PEN: u32 = 63;
+}
+
+// What adding the contacts of a list of stays answers: the number of them that were new to the table.
+pub enum StaysAnswer {
+    Added(u32),
     Refused(Refusal),
 }
 

@@ -2,7 +2,8 @@
 use Prim.Native.Nat.{_-_}
 use native.Mathlib.Omega.{arith}
 use borrow.Author.Needs.{needs}
-use Rattle.joining.proofs.Adds.{added-kept, AddedRows, rows-start, row-addable, row-few, row-turn, rows-added}
+use Rattle.adding_lists.proofs.Adds.{added-kept}
+use Rattle.joining.proofs.Adds.{AddedRows, rows-start, row-addable, row-few, row-turn, rows-added}
 use Rattle.joining.proofs.join_cell.Statement.{statement}
 use Rattle.joining.proofs.join_cell.Tie as tie
 

@@ -5,7 +5,8 @@ use borrow.Author.Needs.{needs}
 use lib.ListN.{length}
 use Rattle.grid.proofs.Steps.{next-less, AtCell, at-cell, none-left}
 use Rattle.cells.specs.Stored.{Stored}
-use Rattle.joining.proofs.Adds.{added-kept, AddedCells, cells-start, cell-addable, cell-few, cell-turn, cells-added}
+use Rattle.adding_lists.proofs.Adds.{added-kept}
+use Rattle.joining.proofs.Adds.{AddedCells, cells-start, cell-addable, cell-few, cell-turn, cells-added}
 use Rattle.joining.proofs.join_cells.Statement.{statement}
 use Rattle.joining.proofs.join_cells.Tie as tie
 

@@ -1,20 +1,18 @@
 -- `join_row` meets its contract: a row that is no contact leaves the table, any other is added.
-use mathlib.Core.Path.{_≡_, _∙_}
+use mathlib.Core.Path.{_≡_, sym, subst}
 use mathlib.Core.List.{[], _∷_}
 use native.Mathlib.Omega.{arith}
 use borrow.Author.Needs.{needs}
 use Rattle.journeys.specs.Journey.{contact}
 use Rattle.logs.proofs.Passes.{contactsOf, no-contact, one-contact}
-use Rattle.joining.proofs.Adds.{one-accepted, one-leaves, one-known, one-new, no-new, none-leaves}
+use Rattle.adding_lists.specs.Contacts.{Addable}
+use Rattle.adding_lists.proofs.Adds.{none-added, added-as}
 use Rattle.joining.proofs.join_row.Statement.{statement}
 use Rattle.joining.proofs.join_row.Tie as tie
 
--- The entry of the function, seen from the two ends that were read, and these from the add.
+-- The entry of the function, seen from the two ends that were read.
 abbrev entry : tie.After-arrival-of → tie.Start
 entry c = c .before .before .before
-
-abbrev ends : tie.After-add-contact → tie.Else1
-ends c = c .before .before
 
 -- The contact of the row.
 is-contact : (c : tie.Else1) → let s = entry (c .before) .args in contactsOf (s .carry) (s .u) (s .v) (s .w) ≡ contact (s .u) (s .v) (c .before .before .departure-of .result) ∷ []
@@ -24,31 +22,15 @@ returns : tie.Need-returns
 returns c =
     let a = c .before in
     let s = entry a .args in
-    let n = no-contact (s .carry) (s .u) (s .v) (s .w) _ _ (a .before .departure-of .ensures) (a .arrival-of .ensures) (λ e. omega (arith, c .if1 .taken)) in
-    (no-new _ _ n, none-leaves _ _ n)
+    none-added _ _ (no-contact (s .carry) (s .u) (s .v) (s .w) _ _ (a .before .departure-of .ensures) (a .arrival-of .ensures) (λ e. omega (arith, c .if1 .taken)))
 
-add-contact-requires : tie.Need-add-contact-requires
-add-contact-requires c κs = let e = c .before in one-accepted _ (is-contact e) (entry (e .before) .pre .1)
+add-counting-requires : tie.Need-add-counting-requires
+add-counting-requires c κs = let e = c .before in subst (Addable _) (is-contact e) (entry (e .before) .pre .1)
 
 returns-2 : tie.Need-returns-2
-returns-2 c =
-    let a = c .before .before .before in
-    let e = ends a in
-    let i = is-contact e in
-    let r = a .add-contact .ensures in
-    (one-known _ _ _ i (one-accepted _ i (entry (e .before) .pre .1)) (r .0) (c .if2 .taken), r .1 .1 ∙ one-leaves _ _ _ i)
-
-returns-3 : tie.Need-returns-3
-returns-3 c =
-    let a = c .before .before .before in
-    let e = ends a in
-    let i = is-contact e in
-    let r = a .add-contact .ensures in
-    (one-new _ _ _ i (one-accepted _ i (entry (e .before) .pre .1)) (r .0) (c .if2 .left), r .1 .1 ∙ one-leaves _ _ _ i)
+returns-2 c = let a = c .before .before in added-as _ (sym (is-contact (a .before .before))) (a .add-counting .ensures)
 
 pub join-row-spec : {M : Type 1} → statement M
 join-row-spec =
     tie.close
-    (tie.spec
-    (λ c κs. search needs) (λ c κs. search needs) (λ c. search needs) returns add-contact-requires (λ c. search needs) returns-2
-    (λ c. search needs) returns-3)
+    (tie.spec (λ c κs. search needs) (λ c κs. search needs) (λ c. search needs) returns add-counting-requires (λ c. search needs) returns-2)
