@@ -29,6 +29,15 @@ pub enum Joined {
     Refused(u32),
 }
 
+/// The answer of [`stays`](crate::stays).
+#[derive(Clone, Copy, Debug, PartialEq, Eq)]
+pub enum StaysAdded {
+    /// The table holds every contact of the stays; so many of them were new to it.
+    New(u32),
+    /// The refusal's number; the table keeps its words.
+    Refused(u32),
+}
+
 /// The answer of [`read_log`](crate::read_log).
 #[derive(Clone, Copy, Debug, PartialEq, Eq)]
 pub enum Read {
@@ -129,6 +138,17 @@ impl Joined {
         match parts(reply) {
             (0, number) => Joined::Refused(number),
             (1, contacts) => Joined::New(contacts),
+            _ => no_answer(reply),
+        }
+    }
+}
+
+impl StaysAdded {
+    /// What the reply says.
+    pub(crate) fn of(reply: u64) -> StaysAdded {
+        match parts(reply) {
+            (0, number) => StaysAdded::Refused(number),
+            (1, contacts) => StaysAdded::New(contacts),
             _ => no_answer(reply),
         }
     }

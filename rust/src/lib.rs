@@ -1,10 +1,10 @@
 //! Safe calls of the proved contact tracing engine.
 //!
 //! The caller lends a table of 1 + n·n·(τ+1) words for n animals and τ ticks. [`open`] opens it, [`add`] adds a contact,
-//! [`join`] adds all contacts of a second table, [`read_log`] loads a whole log and [`write_log`] writes one. [`reach`],
-//! [`earliest`], [`latest`], [`connected`], [`reached`] and [`chain`] ask about the journeys of the contacts that were
-//! added, and [`claimed`] judges a chain that somebody claims. A call keeps nothing but the words lent to it, and reads and
-//! writes only these.
+//! [`join`] adds all contacts of a second table, [`stays`] adds those of animals that were in one pen at a time,
+//! [`read_log`] loads a whole log and [`write_log`] writes one. [`reach`], [`earliest`], [`latest`], [`connected`],
+//! [`reached`] and [`chain`] ask about the journeys of the contacts that were added, and [`claimed`] judges a chain that
+//! somebody claims. A call keeps nothing but the words lent to it, and reads and writes only these.
 //!
 //! A contact leaves one animal at a tick and arrives at another when the carry time is over. A journey is a row of
 //! contacts, at least one, each leaving the animal that the one before it reached, no earlier than it got there. A window
@@ -24,6 +24,9 @@
 //! | opening | 2 | animals − 1 | carry time − 1 | ticks − 1 |
 //! | contact | 1 | the animal left | the animal met | tick − 1 |
 //! | end of a log | 3 | the contacts of the log, in bits 25–0 | | |
+//!
+//! A record of a list of stays is four words, each a plain number: animal, pen, first tick, last tick. [`Stay`] is such a
+//! record.
 //!
 //! # Refusals
 //!
@@ -46,15 +49,17 @@
 //! | `chain` | 10 | the buffer is shorter than n−1 words |
 //! | `write_log` | 15 | the buffer is shorter than the contacts held and 2 |
 //! | `join` | 17 | the two tables have different opening words |
+//! | `stays` | 18 | a record is no legal stay, or the last one is incomplete |
 //!
-//! `join` judges its first table by 5 and 6, and then its second one likewise.
+//! `join` judges its first table by 5 and 6, and then its second one likewise. A stay is legal when its animal is below n,
+//! its pen is 0 to 63, its ticks are in range, and its first is not after its last.
 //!
-//! The tick of a contact is 1 to τ; every tick of a question is 1 to τ+δ, with δ the carry time.
+//! The tick of a contact and those of a stay are 1 to τ; every tick of a question is 1 to τ+δ, with δ the carry time.
 //!
 //! # A session
 //!
 //! ```
-//! use herd::{Added, Answer, Chain, Found, Interval, Joined, Opened};
+//! use herd::{Added, Answer, Chain, Found, Interval, Joined, Opened, Stay, StaysAdded};
 //!
 //! let mut table = vec![0; 1 + 4 * 4 * 7];
 //! assert_eq!(herd::open(&mut table, 4, 6, 1), Opened::Opened);
@@ -74,6 +79,14 @@
 //! assert_eq!(herd::add(&mut other_yard, 3, 2, 6), Added::New(1));
 //! assert_eq!(herd::join(&mut table, &other_yard), Joined::New(1));
 //! assert_eq!(herd::reach(&table, 0, 2, 2, 7), Answer::Yes);
+//!
+//! let gate = [
+//!     Stay { animal: 2, pen: 63, first: 1, last: 3 },
+//!     Stay { animal: 0, pen: 63, first: 2, last: 5 },
+//! ];
+//! assert_eq!(herd::stays(&mut table, Stay::words(&gate)), StaysAdded::New(4));
+//! assert_eq!(herd::reach(&table, 2, 0, 3, 4), Answer::Yes);
+//! assert_eq!(herd::reach(&table, 2, 0, 4, 7), Answer::No);
 //! ```
 //!
 //! # Tests
@@ -88,8 +101,10 @@ mod questions;
 mod tables;
 pub mod testing;
 
-pub use answers::{Added, Answer, Chain, Found, Interval, Joined, Opened, Reached, Read, Written};
+pub use answers::{
+    Added, Answer, Chain, Found, Interval, Joined, Opened, Reached, Read, StaysAdded, Written,
+};
 pub use chains::{chain, claimed};
 pub use logs::{read_log, write_log};
 pub use questions::{connected, earliest, latest, reach, reached};
-pub use tables::{add, join, open};
+pub use tables::{add, join, open, stays, Stay};

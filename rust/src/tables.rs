@@ -1,7 +1,31 @@
-//! Opening a table, adding a contact, and joining two tables.
+//! Opening a table, adding a contact, joining two tables, and adding the contacts of stays.
 
-use crate::exports::{herd_add, herd_join, herd_open};
-use crate::{Added, Joined, Opened};
+use crate::exports::{herd_add, herd_join, herd_open, herd_stays};
+use crate::{Added, Joined, Opened, StaysAdded};
+use std::slice;
+
+/// A record of a gate reader: the animal was in the pen from the first tick to the last.
+#[repr(C)]
+#[derive(Clone, Copy, Debug, PartialEq, Eq)]
+pub struct Stay {
+    /// The animal.
+    pub animal: u32,
+    /// The pen, 0 to 63.
+    pub pen: u32,
+    /// The first tick at which the animal was there.
+    pub first: u32,
+    /// The last tick at which it was there.
+    pub last: u32,
+}
+
+impl Stay {
+    /// The list as the words that [`stays`] is lent: animal, pen, first and last tick of each.
+    #[inline]
+    pub fn words(list: &[Stay]) -> &[u32] {
+        // SAFETY: a stay lies in memory as its four words in this order, and the words are borrowed with the list.
+        unsafe { slice::from_raw_parts(list.as_ptr().cast(), 4 * list.len()) }
+    }
+}
 
 /// Opens the table for so many animals and ticks and the carry time: writes every word of it, each cell empty.
 ///
@@ -33,4 +57,18 @@ pub fn join(first: &mut [u32], second: &[u32]) -> Joined {
     let (first, second) = (first.as_mut_ptr(), second.as_ptr());
     // SAFETY: pointers and lengths are those of two lent slices, and the engine is proved to stay inside.
     Joined::of(unsafe { herd_join(first, first_words, second, second_words) })
+}
+
+/// Adds the contacts of the stays: two different animals in the same pen at a shared tick met at that tick, both ways.
+///
+/// The words of [`Stay`] records are lent, four to each, in any order and with repeats; stays of one animal may overlap, in
+/// one pen or in two. The answer says how many of the contacts the table did not hold before. Each of them is added once:
+/// by tick, then by the animal left, then by the animal met. Where some record is no stay of the table's animals and ticks,
+/// or the last one is incomplete, it is refused with 18, and no contact is added.
+#[inline]
+pub fn stays(table: &mut [u32], stays: &[u32]) -> StaysAdded {
+    let (words, stay_words) = (table.len(), stays.len());
+    let (table, stays) = (table.as_mut_ptr(), stays.as_ptr());
+    // SAFETY: pointers and lengths are those of two lent slices, and the engine is proved to stay inside.
+    StaysAdded::of(unsafe { herd_stays(table, words, stays, stay_words) })
 }

@@ -4,10 +4,10 @@ use herd::testing::cases;
 use herd::testing::model::{self, Contacts};
 use herd::testing::random::Random;
 use herd::testing::suite::{draws, Call, Export, Lent, Reply, Suite};
-use herd::testing::words::{self, Cells, Opening};
+use herd::testing::words::{self, Cells, Opening, Stay};
 
 /// The refusals on a good table.
-const ON_GOOD_TABLES: [u32; 6] = [7, 8, 9, 10, 15, 17];
+const ON_GOOD_TABLES: [u32; 7] = [7, 8, 9, 10, 15, 17, 18];
 
 /// The refusals of opening and of reading a log.
 const ANEW: [u32; 8] = [1, 2, 3, 4, 11, 12, 13, 14];
@@ -19,6 +19,15 @@ const ON_PAIRS: [Export; 5] = [
     Export::Latest,
     Export::Chain,
     Export::Claimed,
+];
+
+/// The calls that change the table, and those that write a log or a set.
+const THAT_WRITE: [Export; 5] = [
+    Export::Add,
+    Export::Join,
+    Export::Stays,
+    Export::WriteLog,
+    Export::Reached,
 ];
 
 /// The cells of the fresh table over the contacts that a table holds.
@@ -189,9 +198,10 @@ fn one_animal_is_connected_and_reaches_none() {
     for (export, answer) in [
         (Export::Connected, Reply::Yes),
         (Export::Reached, Reply::Animals(0)),
+        (Export::Stays, Reply::StaysAdded(0)),
     ] {
         let is_answer = |reply| reply == answer;
-        let is_other = |reply| !is_answer(reply) && !matches!(reply, Reply::Refused(7 | 9));
+        let is_other = |reply| !is_answer(reply) && !matches!(reply, Reply::Refused(7 | 9 | 18));
         assert_eq!(suite.times(export, is_other), 0, "{export:?}");
         assert!(suite.times(export, is_answer) > 500, "{export:?}");
     }
@@ -229,8 +239,7 @@ fn calls_about_the_intervals_of_wide_tables_that_adds_built() {
         suite.compare_drawn(&mut random, &lent, &Export::ON_OPEN_TABLES, drawn);
     }
     suite.at_least(40, &ON_PAIRS, &ON_GOOD_TABLES);
-    let others = [Export::WriteLog, Export::Add, Export::Join, Export::Reached];
-    suite.at_least(20, &others, &ON_GOOD_TABLES);
+    suite.at_least(20, &THAT_WRITE, &ON_GOOD_TABLES);
     chains_up_to(&suite, 6, 20);
 }
 
@@ -262,8 +271,7 @@ fn calls_about_the_rows_of_long_cells_that_no_adds_built() {
         }
     }
     suite.at_least(40, &ON_PAIRS, &ON_GOOD_TABLES);
-    let others = [Export::WriteLog, Export::Add, Export::Join, Export::Reached];
-    suite.at_least(40, &others, &ON_GOOD_TABLES);
+    suite.at_least(40, &THAT_WRITE, &ON_GOOD_TABLES);
 }
 
 #[test]
@@ -421,6 +429,20 @@ fn refusals_come_in_order() {
         words[other.cell_start(1, 1)] = words::count_word(1);
         seconds.push((words, Some(6)));
     }
+    let mut lists = vec![(Vec::new(), None)];
+    let list = words::stays([(0, 63, 1, 4), (2, 63, 2, 3)]);
+    let stays = Stay::words(&list);
+    for length in 1..=stays.len() {
+        let incomplete = (length % 4 != 0).then_some(18);
+        lists.push((stays[..length].to_vec(), incomplete));
+    }
+    for place in 0..list.len() {
+        for illegal in cases::illegal_stays(opening, list[place]) {
+            let mut list = list;
+            list[place] = illegal;
+            lists.push((Stay::words(&list).to_vec(), Some(18)));
+        }
+    }
     let animals = [
         (0, None),
         (1, None),
@@ -471,6 +493,9 @@ fn refusals_come_in_order() {
         }
         for (second, refusal) in &seconds {
             ask(&[*refusal], Call::Join(second.clone()));
+        }
+        for (stays, refusal) in &lists {
+            ask(&[*refusal], Call::Stays(stays.clone()));
         }
         for ((first, last), window) in windows {
             ask(&[window], Call::Connected(first, last));

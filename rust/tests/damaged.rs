@@ -7,7 +7,7 @@ use herd::testing::words::{self, Cells, Interval, Opening};
 use std::collections::BTreeMap;
 
 /// The refusals of calls on an open table.
-const REFUSALS: [u32; 8] = [5, 6, 7, 8, 9, 10, 15, 17];
+const REFUSALS: [u32; 9] = [5, 6, 7, 8, 9, 10, 15, 17, 18];
 
 /// So many calls are one of each kind.
 const EACH: usize = Export::ON_OPEN_TABLES.len();
@@ -410,7 +410,7 @@ fn every_interval_and_count_at_every_word() {
             let interval = |&arrival: &u32| Interval::new(departure, arrival);
             others.extend(arrivals.iter().map(interval).map(words::interval_word));
         }
-        for _ in 0..20 {
+        for _ in 0..24 {
             let cells = cases::cells(&mut turns.random, opening);
             let good = Good::new(opening, cells);
             for place in 0..good.lent.words.len() {
@@ -441,7 +441,7 @@ fn scattered(random: &mut Random, lent: &Lent) -> Lent {
 #[test]
 fn random_words_anywhere() {
     let mut turns = Turns::new(706);
-    for round in 0..120_000 {
+    for round in 0..140_000 {
         let lent = match round % 3 {
             0 => draws::built(&mut turns.random),
             _ => draws::stored(&mut turns.random),

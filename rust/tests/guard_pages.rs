@@ -3,11 +3,11 @@
 use herd::testing::cases;
 use herd::testing::compare::same_words;
 use herd::testing::guard::{Guarded, Memory, Place};
-use herd::testing::model;
+use herd::testing::model::{self, Contacts};
 use herd::testing::random::Random;
 use herd::testing::suite::{draws, Call, Export, Lent, Reply, Suite};
-use herd::testing::words::{self, Opening};
-use herd::{Added, Answer, Chain, Found, Joined, Opened, Reached, Read, Written};
+use herd::testing::words::{self, Opening, Stay, LAST_PEN};
+use herd::{Added, Answer, Chain, Found, Joined, Opened, Reached, Read, StaysAdded, Written};
 use std::env;
 use std::os::unix::process::ExitStatusExt;
 use std::process::Command;
@@ -76,7 +76,7 @@ fn tables_that_adds_built_stay_inside() {
     suite.at_least(
         30,
         &Export::ALL,
-        &[1, 2, 3, 4, 7, 8, 9, 10, 11, 12, 13, 14, 15, 17],
+        &[1, 2, 3, 4, 7, 8, 9, 10, 11, 12, 13, 14, 15, 17, 18],
     );
 }
 
@@ -92,7 +92,7 @@ fn tables_that_no_adds_built_stay_inside() {
     suite.at_least(
         30,
         &Export::ALL,
-        &[1, 2, 3, 4, 7, 8, 9, 10, 11, 12, 13, 14, 15, 17],
+        &[1, 2, 3, 4, 7, 8, 9, 10, 11, 12, 13, 14, 15, 17, 18],
     );
 }
 
@@ -135,6 +135,12 @@ fn full_cells_stay_inside() {
                 let reply = suite.compare_at_guards(first, &call);
                 assert_eq!(reply, Reply::Joined(new), "{opening:?}");
             }
+            let together = [0, 1, 2].map(|animal| Stay::new(animal, LAST_PEN, 1, ticks));
+            let call = Call::Stays(Stay::words(&together).to_vec());
+            for (lent, new) in [(&full, 0), (&thinned, gone as u32)] {
+                let reply = suite.compare_at_guards(lent, &call);
+                assert_eq!(reply, Reply::StaysAdded(new), "{opening:?}");
+            }
         }
     }
 }
@@ -156,6 +162,28 @@ fn joined_tables_stay_inside() {
     }
     let new = suite.times(Export::Join, |reply| matches!(reply, Reply::Joined(1..)));
     assert!(new > 2_000, "{new}");
+}
+
+#[test]
+fn lists_of_stays_stay_inside() {
+    let _turn = TURN.lock();
+    let mut random = Random::new(609);
+    let mut suite = Suite::default();
+    for _ in 0..1_500 {
+        for lent in [draws::built(&mut random), draws::stored(&mut random)] {
+            let list = cases::stays(&mut random, lent.opening, 12);
+            let words = Stay::words(&list);
+            suite.compare_at_guards(&lent, &Call::Stays(words.to_vec()));
+            for less in (1..=3).filter(|&less| less < words.len()) {
+                let cut = words[..words.len() - less].to_vec();
+                let reply = suite.compare_at_guards(&lent, &Call::Stays(cut));
+                assert_eq!(reply, Reply::Refused(18), "{list:?} without {less} words");
+            }
+        }
+    }
+    let is_new = |reply| matches!(reply, Reply::StaysAdded(1..));
+    let new = suite.times(Export::Stays, is_new);
+    assert!(new > 1_000, "{new}");
 }
 
 #[test]
@@ -300,6 +328,8 @@ fn tables_of_more_words_than_32_bits_count() {
     assert_eq!(herd::read_log(&log, &mut lent), Read::Refused(4));
     assert_eq!(herd::add(&mut lent, 0, 1, 1), Added::Refused(5));
     assert_eq!(herd::join(&mut lent, &table), Joined::Refused(5));
+    let stays = [0, 63, 1, 6, 1, 63, 1, 6];
+    assert_eq!(herd::stays(&mut lent, &stays), StaysAdded::Refused(5));
     let written = herd::write_log(&lent, &mut buffer);
     assert_eq!(written, Written::Refused(5));
     assert_eq!(herd::reach(&lent, 0, 1, 1, 7), Answer::Refused(5));
@@ -346,6 +376,16 @@ fn more_words_beside_a_table_than_32_bits_count() {
     assert_eq!(herd::join(&mut first, &second), Joined::Refused(5));
     let joined = herd::join(&mut first, &second[..table.len()]);
     assert_eq!((joined, first), (Joined::New(0), table.clone()));
+
+    let stays = vast(&[0, 63, 1, 6, 1, 63, 6, 6]);
+    let mut after = model::fresh_table(opening, &Contacts::new());
+    let empty = after.clone();
+    let refused = StaysAdded::Refused(18);
+    assert_eq!(herd::stays(&mut after, &stays), refused);
+    assert_eq!(herd::stays(&mut after, &stays[..1 << 32]), refused);
+    assert_eq!(after, empty);
+    let added = herd::stays(&mut after, &stays[..8]);
+    assert_eq!(added, StaysAdded::New(2));
 
     let mut lent = vast(&log);
     let mut after = vec![5; table.len()];

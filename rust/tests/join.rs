@@ -495,37 +495,6 @@ fn halves_of_every_legal_contact() {
     }
 }
 
-/// The table, with something wrong for which it is refused with 5.
-fn refused_5(random: &mut Random, table: &[u32]) -> Vec<u32> {
-    let mut words = table.to_vec();
-    match random.below(6) {
-        0 => words.clear(),
-        1 => words.truncate(1),
-        2 => drop(words.pop()),
-        3 => words.push(random.one_of(&[0, 0xC000_0000, u32::MAX])),
-        4 => words[0] = cases::other_kind(random, words[0]),
-        _ => words[0] |= 1 << random.between(26, 29),
-    }
-    words
-}
-
-/// The table, with something wrong in one cell, for which it is refused with 6.
-fn refused_6(random: &mut Random, opening: Opening, table: &[u32]) -> Vec<u32> {
-    let mut words = table.to_vec();
-    let mut animal = || random.between(0, opening.animals - 1);
-    let (u, v) = (animal(), animal());
-    let start = opening.cell_start(u, v);
-    let row = start + random.between(1, opening.ticks) as usize;
-    match random.below(5) {
-        0 => words[start] = words::count_word(opening.ticks + 1),
-        1 => words[start] ^= 1 << random.between(11, 29),
-        2 => words[start] = cases::other_kind(random, words[start]),
-        3 => words[row] |= 1 << random.between(22, 29),
-        _ => words[opening.cell_start(v, v)] = words::count_word(1),
-    }
-    words
-}
-
 #[test]
 fn checks_run_in_order() {
     let mut random = Random::new(1_314);
@@ -536,10 +505,10 @@ fn checks_run_in_order() {
         let other = cases::other_opening(&mut random, opening);
         let other = Lent::stored(other, &draws::cells(&mut random, other));
         let mut damaged = |lent: &Lent, refusal| {
-            let wrong_cell = refused_6(&mut random, lent.opening, &lent.words);
+            let wrong_cell = cases::refused_6(&mut random, lent.opening, &lent.words);
             match refusal {
-                Some(5) if random.once_in(2) => refused_5(&mut random, &wrong_cell),
-                Some(5) => refused_5(&mut random, &lent.words),
+                Some(5) if random.once_in(2) => cases::refused_5(&mut random, &wrong_cell),
+                Some(5) => cases::refused_5(&mut random, &lent.words),
                 Some(_) => wrong_cell,
                 None => lent.words.clone(),
             }

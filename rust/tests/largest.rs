@@ -4,7 +4,7 @@ use herd::testing::calls::accepted;
 use herd::testing::compare::{same_table, same_words};
 use herd::testing::model::{self, Contacts};
 use herd::testing::words::{self, contacts, Cells, Contact, Interval, Opening};
-use herd::{Added, Answer, Chain, Found, Joined, Opened, Reached, Read, Written};
+use herd::{Added, Answer, Chain, Found, Joined, Opened, Reached, Read, Stay, StaysAdded, Written};
 
 /// The largest opening.
 const LARGEST: Opening = Opening {
@@ -276,6 +276,69 @@ fn joining_two_tables() {
 }
 
 #[test]
+fn adding_the_contacts_of_stays() {
+    let (mut memory, listed) = asked();
+    let length = memory.len() - 1;
+    let last = length - 1;
+    let before = model::minimal_intervals(LARGEST, &listed.into());
+    let list = words::stays([
+        (255, 63, 1023, 1024),
+        (9, 63, 1024, 1024),
+        (3, 0, 1, 1),
+        (254, 0, 1, 1),
+        (255, 62, 1, 1024),
+        (0, 63, 1, 1),
+        (0, 63, 1024, 1024),
+        (0, 61, 1024, 1024),
+        (255, 61, 1024, 1024),
+    ]);
+    let words = Stay::words(&list);
+    let incomplete = &words[..words.len() - 1];
+
+    memory[last] = 1;
+    for stays in [words, incomplete] {
+        for (words, number) in [(length, 6), (length - 1, 5), (length + 1, 5)] {
+            let added = herd::stays(&mut memory[..words], stays);
+            assert_eq!(added, StaysAdded::Refused(number));
+        }
+    }
+    memory[last] = 0;
+    let table = &mut memory[..length];
+    assert_eq!(herd::stays(table, incomplete), StaysAdded::Refused(18));
+    for illegal in words::stays([
+        (256, 63, 1, 1024),
+        (255, 64, 1, 1024),
+        (255, 63, 0, 1024),
+        (255, 63, 1, 1025),
+        (255, 63, 1024, 1023),
+    ]) {
+        let list = [&list[..], &[illegal]].concat();
+        let added = herd::stays(table, Stay::words(&list));
+        assert_eq!(added, StaysAdded::Refused(18), "{illegal:?}");
+    }
+    same_table(table, LARGEST, &before, "refused");
+
+    assert_eq!(herd::stays(table, &[]), StaysAdded::New(0));
+    assert_eq!(herd::stays(table, words), StaysAdded::New(6));
+    let met = contacts([
+        (255, 9, 1024),
+        (9, 255, 1024),
+        (0, 9, 1024),
+        (9, 0, 1024),
+        (0, 255, 1024),
+        (254, 3, 1),
+    ]);
+    let all: Contacts = listed.into_iter().chain(met).collect();
+    let cells = model::minimal_intervals(LARGEST, &all);
+    same_table(table, LARGEST, &cells, "added");
+    let through = &cells[LARGEST.pair(3, 9)];
+    assert_eq!(through, &[Interval::new(1, 1280)]);
+    assert_eq!(herd::stays(table, words), StaysAdded::New(0));
+    same_table(table, LARGEST, &cells, "added twice");
+    assert_eq!(memory[length], 0);
+}
+
+#[test]
 fn writing_a_log() {
     let (memory, listed) = asked();
     let table = &memory[..memory.len() - 1];
@@ -332,6 +395,9 @@ fn every_legal_contact() {
         }
     }
     assert_eq!(herd::add(&mut table, 255, 254, 1024), Added::Known(0));
+    let list = words::stays([(255, 63, 1023, 1024), (254, 63, 1024, 1024)]);
+    let added = herd::stays(&mut table, Stay::words(&list));
+    assert_eq!(added, StaysAdded::New(0));
     assert_eq!(herd::connected(&table, 1024, 1280), Answer::Yes);
     assert_eq!(herd::connected(&table, 1024, 1279), Answer::No);
     let mut set = [0; 8];

@@ -7,8 +7,8 @@ use herd::testing::model::{self, Contacts, Journeys};
 use herd::testing::random::Random;
 use herd::testing::rule::Stored;
 use herd::testing::suite::{draws, Export, Lent};
-use herd::testing::words::{self, Cells, Contact, Interval, Opening};
-use herd::{Added, Joined, Read};
+use herd::testing::words::{self, Cells, Contact, Interval, Opening, Stay, LAST_PEN};
+use herd::{Added, Joined, Read, StaysAdded};
 use std::collections::BTreeSet;
 use std::fmt::Debug;
 
@@ -384,6 +384,52 @@ fn joining_is_adding_what_the_second_holds() {
         assert_eq!(answer, Joined::New(new), "{opening:?} {held:?}");
         assert_eq!(joined, table, "{opening:?} {held:?}");
     }
+}
+
+#[test]
+fn stays_are_adding_who_is_in_one_pen() {
+    let mut random = Random::new(208);
+    let (mut new, mut refused) = (0, 0);
+    for round in 0..1_500 {
+        let opening = draws::opening(&mut random);
+        let first = words::table(opening, &draws::cells(&mut random, opening));
+        let list = cases::stays(&mut random, opening, 8);
+        let mut contacts = Vec::new();
+        for tick in 1..=opening.ticks {
+            for pen in 0..=LAST_PEN {
+                let here =
+                    |stay: &&Stay| stay.pen == pen && stay.first <= tick && tick <= stay.last;
+                let animals = list.iter().filter(here).map(|stay| stay.animal);
+                let animals: BTreeSet<u32> = animals.collect();
+                for &u in &animals {
+                    let others = animals.iter().filter(|&&v| v != u);
+                    contacts.extend(others.map(|&v| Contact::new(u, v, tick)));
+                }
+            }
+        }
+        if round % 2 == 0 {
+            contacts.reverse();
+        }
+        let (mut table, mut number) = (first.clone(), 0);
+        for contact in &contacts {
+            let (added, after) = calls::add(&table, contact.from, contact.to, contact.tick);
+            number += u32::from(matches!(added, Added::New(_)));
+            table = after;
+        }
+        let (answer, after) = calls::stays(&first, Stay::words(&list));
+        assert_eq!(answer, StaysAdded::New(number), "{opening:?} {list:?}");
+        assert_eq!(after, table, "{opening:?} {list:?}");
+        new += number;
+        for stay in &list {
+            for illegal in cases::illegal_stays(opening, *stay) {
+                let list = [&list[..], &[illegal]].concat();
+                let outcome = calls::stays(&first, Stay::words(&list));
+                assert_eq!(outcome, (StaysAdded::Refused(18), first.clone()));
+                refused += 1;
+            }
+        }
+    }
+    assert!(new > 3_000 && refused > 100_000, "{new} {refused}");
 }
 
 #[test]

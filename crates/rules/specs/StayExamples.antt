@@ -75,13 +75,15 @@ staysRows =
     -- No record, and one.
     ∷ gives met [] (Added 0) met
     ∷ gives met (0 ∷ 0 ∷ 1 ∷ 3 ∷ []) (Added 0) met
-    -- 18: animal 2, pen 64, ticks 0 and 4, first after last, each behind records that are stays; an incomplete record.
+    -- 18: animal 2, pen 64, ticks 0 and 4, first after last, each behind records that are stays; incomplete records.
     ∷ gives none (sharing ++ (2 ∷ 0 ∷ 1 ∷ 1 ∷ [])) (Refused IllegalStay) none
     ∷ gives none (sharing ++ (0 ∷ 64 ∷ 1 ∷ 1 ∷ [])) (Refused IllegalStay) none
     ∷ gives none (sharing ++ (0 ∷ 0 ∷ 0 ∷ 1 ∷ [])) (Refused IllegalStay) none
     ∷ gives none (sharing ++ (0 ∷ 0 ∷ 1 ∷ 4 ∷ [])) (Refused IllegalStay) none
     ∷ gives none (sharing ++ (0 ∷ 0 ∷ 2 ∷ 1 ∷ [])) (Refused IllegalStay) none
     ∷ gives none (sharing ++ (0 ∷ 0 ∷ 1 ∷ [])) (Refused IllegalStay) none
+    ∷ gives none (sharing ++ (0 ∷ 0 ∷ [])) (Refused IllegalStay) none
+    ∷ gives none (0 ∷ []) (Refused IllegalStay) none
     -- The bad record first.
     ∷ gives none (2 ∷ 0 ∷ 1 ∷ 1 ∷ sharing) (Refused IllegalStay) none
     -- 5 and 6 before it.

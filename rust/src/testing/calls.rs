@@ -4,7 +4,7 @@ use crate::testing::check;
 use crate::testing::contents::Contents;
 use crate::testing::model::{self, Contacts, Journeys};
 use crate::testing::words::{self, Interval, Opening, SET_WORDS};
-use crate::{Added, Answer, Chain, Found, Joined, Opened, Reached, Read, Written};
+use crate::{Added, Answer, Chain, Found, Joined, Opened, Reached, Read, StaysAdded, Written};
 
 /// Opening over these words.
 pub fn open(table: &[u32], animals: u32, ticks: u32, carry: u32) -> (Opened, Vec<u32>) {
@@ -50,6 +50,11 @@ pub fn add(table: &[u32], u: u32, v: u32, t: u32) -> (Added, Vec<u32>) {
 /// Joining the table of the second words into that of the first: the answer, and the words of the first afterwards.
 pub fn join(first: &[u32], second: &[u32]) -> (Joined, Vec<u32>) {
     Known::by_words(first).join(first, &Known::by_words(second))
+}
+
+/// Adding the contacts of the stays in these words to the table of the first words.
+pub fn stays(table: &[u32], stays: &[u32]) -> (StaysAdded, Vec<u32>) {
+    Known::by_words(table).stays(table, stays)
 }
 
 /// The reach question on the table of these words, which stay as they are.
@@ -99,11 +104,24 @@ impl Known {
         let checked = self.contents().and_then(|first| {
             let second = second.contents()?;
             check::same_opening(first.opening(), second.opening())?;
-            Ok((first.opening(), first.join(second)))
+            Ok((first.opening(), first.add_all(&second.held())))
         });
         match checked {
             Err(number) => (Joined::Refused(number), table.to_vec()),
             Ok((opening, (cells, new))) => (Joined::New(new), words::table(opening, &cells)),
+        }
+    }
+
+    /// Adding the contacts of the stays in these words: the answer, and the table's words afterwards.
+    pub fn stays(&self, table: &[u32], stays: &[u32]) -> (StaysAdded, Vec<u32>) {
+        let checked = self.contents().and_then(|contents| {
+            let stays = check::stays(contents.opening(), stays)?;
+            let contacts = Vec::from_iter(model::met(&stays));
+            Ok((contents.opening(), contents.add_all(&contacts)))
+        });
+        match checked {
+            Err(number) => (StaysAdded::Refused(number), table.to_vec()),
+            Ok((opening, (cells, new))) => (StaysAdded::New(new), words::table(opening, &cells)),
         }
     }
 

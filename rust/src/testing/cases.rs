@@ -1,8 +1,8 @@
-//! Random openings, contacts, logs and well-formed cells.
+//! Random openings, contacts, logs, stays and well-formed cells.
 
 use crate::testing::model;
 use crate::testing::random::Random;
-use crate::testing::words::{Cells, Contact, Interval, Opening};
+use crate::testing::words::{count_word, Cells, Contact, Interval, Opening, Stay, LAST_PEN};
 
 /// A small opening, with a carry time above the ticks now and then.
 pub fn opening(random: &mut Random) -> Opening {
@@ -287,6 +287,117 @@ pub fn log_contacts(random: &mut Random, opening: Opening, most: usize) -> Vec<C
         });
     }
     contacts
+}
+
+/// A legal stay in the pen, of one to so many ticks.
+pub fn stay(random: &mut Random, opening: Opening, pen: u32, longest: u32) -> Stay {
+    let animal = random.between(0, opening.animals - 1);
+    let first = random.between(1, opening.ticks);
+    let last = random.between(first, opening.ticks.min(first + longest - 1));
+    Stay::new(animal, pen, first, last)
+}
+
+/// A list of legal stays of at most 12 ticks, at most so many, in any order: in few pens, about half of them like earlier
+/// ones.
+pub fn stays(random: &mut Random, opening: Opening, most: usize) -> Vec<Stay> {
+    let any = random.between(0, LAST_PEN);
+    let mut pens = [any, any ^ 1, any ^ 32, 0, 31, 32, LAST_PEN];
+    random.shuffle(&mut pens);
+    let pens = &pens[..random.between(1, 3) as usize];
+    let longest = random.one_of(&[1, 3, 12]);
+    let mut stays = Vec::new();
+    for _ in 0..random.below(most + 1) {
+        let pen = random.one_of(pens);
+        let mut drawn = stay(random, opening, pen, longest);
+        if random.once_in(2) && !stays.is_empty() {
+            let earlier = random.one_of(&stays);
+            drawn = alike(random, opening, earlier, drawn);
+        }
+        stays.push(drawn);
+    }
+    stays
+}
+
+/// A legal stay like this one: the same, in the pen or of the animal of another stay, or of that animal for one tick, when
+/// this one ends or just after.
+fn alike(random: &mut Random, opening: Opening, stay: Stay, other: Stay) -> Stay {
+    let (animal, pen) = (other.animal, other.pen);
+    let after = opening.ticks.min(stay.last + 1);
+    match random.below(6) {
+        0 => stay,
+        1 | 2 => Stay { pen, ..stay },
+        3 | 4 => Stay { animal, ..stay },
+        _ => {
+            let tick = random.one_of(&[stay.last, after]);
+            Stay::new(animal, stay.pen, tick, tick)
+        }
+    }
+}
+
+/// Records that are no legal stays: this one with one of its numbers beyond its limit, or with first after last, or with
+/// both ticks out of range.
+pub fn illegal_stays(opening: Opening, stay: Stay) -> Vec<Stay> {
+    let (n, ticks) = (opening.animals, opening.ticks);
+    let Stay {
+        animal,
+        pen,
+        first,
+        last,
+    } = stay;
+    let mut illegal = Vec::new();
+    for animal in [n, n + 1, animal | 1 << 8, animal | 1 << 31, u32::MAX] {
+        illegal.push(Stay { animal, ..stay });
+    }
+    for pen in [64, 65, pen + 64, 255, pen | 1 << 8, pen | 1 << 31, u32::MAX] {
+        illegal.push(Stay { pen, ..stay });
+    }
+    for first in [0, last + 1, ticks + 1, first | 1 << 16, u32::MAX] {
+        illegal.push(Stay { first, ..stay });
+    }
+    for last in [
+        first - 1,
+        ticks + 1,
+        opening.last_arrival(),
+        last | 1 << 16,
+        u32::MAX,
+    ] {
+        illegal.push(Stay { last, ..stay });
+    }
+    for tick in [0, ticks + 1, u32::MAX] {
+        illegal.push(Stay::new(animal, pen, tick, tick));
+    }
+    illegal
+}
+
+/// The table, with something wrong for which it is refused with 5.
+pub fn refused_5(random: &mut Random, table: &[u32]) -> Vec<u32> {
+    let mut words = table.to_vec();
+    match random.below(6) {
+        0 => words.clear(),
+        1 => words.truncate(1),
+        2 => drop(words.pop()),
+        3 => words.push(random.one_of(&[0, 0xC000_0000, u32::MAX])),
+        4 => words[0] = other_kind(random, words[0]),
+        _ => words[0] |= 1 << random.between(26, 29),
+    }
+    words
+}
+
+/// The table, with something wrong in one cell, for which it is refused with 6.
+pub fn refused_6(random: &mut Random, opening: Opening, table: &[u32]) -> Vec<u32> {
+    let mut words = table.to_vec();
+    let mut animal = || random.between(0, opening.animals - 1);
+    let (u, v) = (animal(), animal());
+    let start = opening.cell_start(u, v);
+    let row = start + random.between(1, opening.ticks) as usize;
+    match random.below(5) {
+        0 => words[start] = count_word(opening.ticks + 1),
+        1 => words[start] ^= 1 << random.between(11, 29),
+        2 => words[start] = other_kind(random, words[start]),
+        3 => words[row] |= 1 << random.between(22, 29),
+        _ => words[opening.cell_start(v, v)] = count_word(1),
+    }
+    words
 }
 
 /// The words with one to three of them changed, moved, left out or put in.

@@ -1,7 +1,7 @@
-//! The checks of documents 01 and 02 of open tables, of a log and of a call's numbers, each with its refusal.
+//! The checks of documents 01 and 02 of open tables, of logs, of stays and of a call's numbers, each with its refusal.
 
 use crate::testing::rule::Stored;
-use crate::testing::words::{self, Cells, Contact, Interval, Opening};
+use crate::testing::words::{self, Cells, Contact, Interval, Opening, Stay, LAST_PEN};
 
 /// What the words of an open table store, or refusal 5 or 6.
 pub fn open_table(table: &[u32]) -> Result<Stored, u32> {
@@ -140,6 +140,29 @@ pub fn same_opening(first: Opening, second: Opening) -> Result<(), u32> {
         Ok(())
     } else {
         Err(17)
+    }
+}
+
+/// The stays of these words, four to a record, on a table with this opening, or refusal 18.
+pub fn stays(opening: Opening, words: &[u32]) -> Result<Vec<Stay>, u32> {
+    let mut stays = Vec::new();
+    for record in words.chunks(4) {
+        stays.push(stay(opening, record)?);
+    }
+    Ok(stays)
+}
+
+/// The stay of one record, or refusal 18.
+fn stay(opening: Opening, record: &[u32]) -> Result<Stay, u32> {
+    let &[animal, pen, first, last] = record else {
+        return Err(18);
+    };
+    let ticks = 1..=opening.ticks;
+    let inside = animal < opening.animals && pen <= LAST_PEN;
+    if inside && ticks.contains(&first) && ticks.contains(&last) && first <= last {
+        Ok(Stay::new(animal, pen, first, last))
+    } else {
+        Err(18)
     }
 }
 

@@ -18,8 +18,8 @@ pub trait Contents {
     /// The cells after the contact is added, and the answer.
     fn add(&self, contact: Contact) -> (Cells, Added);
 
-    /// The cells after the contacts that the second table holds are added in log order, and how many of them were new.
-    fn join(&self, second: &dyn Contents) -> (Cells, u32);
+    /// The cells after the contacts, each once and in log order, are added singly, and how many of them were new.
+    fn add_all(&self, contacts: &[Contact]) -> (Cells, u32);
 
     /// Whether a journey from `u` to `v` fits the window.
     fn reaches(&self, u: u32, v: u32, window: Interval) -> bool;

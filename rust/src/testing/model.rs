@@ -1,8 +1,9 @@
-//! The plain search over contacts: what a table over a set of contacts must hold and answer, without cells or an add rule.
+//! The plain search over contacts: what a table over a set of contacts must hold and answer, without cells or an add rule;
+//! and the plain search over stays: which contacts they are.
 
 use crate::testing::calls::accepted;
 use crate::testing::contents::Contents;
-use crate::testing::words::{self, Cells, Contact, Interval, Opening};
+use crate::testing::words::{self, Cells, Contact, Interval, Opening, Stay};
 use crate::Added;
 use std::cell::OnceCell;
 use std::cmp::Reverse;
@@ -21,6 +22,24 @@ pub fn minimal_intervals(opening: Opening, contacts: &Contacts) -> Cells {
 /// The fresh table over the set.
 pub fn fresh_table(opening: Opening, contacts: &Contacts) -> Vec<u32> {
     words::table(opening, &minimal_intervals(opening, contacts))
+}
+
+/// The contacts of the stays: two different animals in the same pen at a shared tick met at that tick, both ways.
+pub fn met(stays: &[Stay]) -> Contacts {
+    let mut contacts = Contacts::new();
+    for one in stays {
+        for other in stays {
+            if one.animal == other.animal || one.pen != other.pen {
+                continue;
+            }
+            for tick in one.first..=one.last {
+                if other.first <= tick && tick <= other.last {
+                    contacts.insert(Contact::new(one.animal, other.animal, tick));
+                }
+            }
+        }
+    }
+    contacts
 }
 
 /// The number of ordered pairs whose intervals differ.
@@ -94,11 +113,11 @@ impl Contents for Journeys {
         (after, accepted(!new, changed))
     }
 
-    fn join(&self, second: &dyn Contents) -> (Cells, u32) {
-        let mut both = self.contacts.clone();
-        both.extend(second.held());
-        let new = both.len() - self.contacts.len();
-        (minimal_intervals(self.opening, &both), new as u32)
+    fn add_all(&self, contacts: &[Contact]) -> (Cells, u32) {
+        let mut all = self.contacts.clone();
+        all.extend(contacts);
+        let new = all.len() - self.contacts.len();
+        (minimal_intervals(self.opening, &all), new as u32)
     }
 
     fn reaches(&self, u: u32, v: u32, window: Interval) -> bool {

@@ -1,4 +1,4 @@
-//! Document 01's add rule and its questions and document 02's join on cells, word for word, for any well-formed table.
+//! Document 01's add rule and its questions on cells, word for word, for any well-formed table.
 
 use crate::testing::calls::accepted;
 use crate::testing::contents::Contents;
@@ -132,10 +132,10 @@ impl Contents for Stored {
         (after.cells, answer)
     }
 
-    fn join(&self, second: &dyn Contents) -> (Cells, u32) {
+    fn add_all(&self, contacts: &[Contact]) -> (Cells, u32) {
         let mut after = self.clone();
         let mut new = 0;
-        for contact in second.held() {
+        for &contact in contacts {
             new += u32::from(matches!(after.take(contact), Added::New(_)));
         }
         (after.cells, new)

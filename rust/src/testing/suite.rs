@@ -143,7 +143,8 @@ impl Suite {
         for &(first, last) in &windows {
             self.compare(lent, &Call::Connected(first, last));
         }
-        self.compare_drawn(random, lent, &[Export::WriteLog, Export::Join], 4);
+        let with_many = [Export::WriteLog, Export::Join, Export::Stays];
+        self.compare_drawn(random, lent, &with_many, 4);
     }
 
     /// Makes each call with a pair and a window, and compares.

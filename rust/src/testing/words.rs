@@ -1,6 +1,6 @@
-//! Contacts, intervals and openings, and their 32-bit words as document 01 lays them out.
+//! Contacts, intervals, openings and stays, and their 32-bit words as documents 01 and 02 lay them out.
 
-pub use crate::Interval;
+pub use crate::{Interval, Stay};
 
 /// The numbers of a table: animals n, ticks τ and carry time δ.
 #[derive(Clone, Copy, Debug, PartialEq, Eq)]
@@ -90,6 +90,26 @@ impl Interval {
     pub fn fits(self, window: Interval) -> bool {
         self.within(window)
     }
+}
+
+/// The last pen; the first is 0.
+pub const LAST_PEN: u32 = 63;
+
+impl Stay {
+    /// The stay of the animal in the pen from the first tick to the last.
+    pub fn new(animal: u32, pen: u32, first: u32, last: u32) -> Stay {
+        Stay {
+            animal,
+            pen,
+            first,
+            last,
+        }
+    }
+}
+
+/// The stays (animal, pen, first, last) of these numbers.
+pub fn stays<const N: usize>(numbers: [(u32, u32, u32, u32); N]) -> [Stay; N] {
+    numbers.map(|(animal, pen, first, last)| Stay::new(animal, pen, first, last))
 }
 
 /// The contacts (u, v, t) of these numbers.

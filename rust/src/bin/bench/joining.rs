@@ -26,9 +26,9 @@ const MOST_SINGLY: f64 = 2_000.0;
 /// One in so many of these times is left out at either end, before their mean is taken.
 const ENDS: usize = 50;
 /// The part of the check's time below which a difference of two times tells nothing.
-const GRAIN: f64 = 0.01;
+pub const GRAIN: f64 = 0.01;
 /// The doubt about the ratio to adds made singly from which on nothing is told.
-const TOLD: f64 = 1.0;
+pub const TOLD: f64 = 1.0;
 
 /// The ratios of the join less its checks to its adds made singly less theirs, with how far that may be off, and to the
 /// same adds in Rust; no number where nothing is told.
@@ -153,7 +153,7 @@ impl Joining {
         for place in 0..self.contacts.len() {
             let contact = self.contacts[place];
             if place % step == 0 {
-                singly.push(self.single_add(contact));
+                singly.push(single_add(&mut self.other, contact));
             } else {
                 let add = || adds::add(self.opening, &mut self.other, contact);
                 rust.push(timed(add).1.as_secs_f64());
@@ -165,22 +165,22 @@ impl Joining {
         };
         (all(rust), all(singly))
     }
+}
 
-    /// The seconds of an add of the contact, whose own check is taken to last as long as the mean of the checks before and
-    /// after.
-    fn single_add(&mut self, contact: Contact) -> f64 {
-        let (u, v, t) = (contact.from, contact.to, contact.tick);
-        check(&mut self.other);
-        let before = check(&mut self.other);
-        let (answer, whole) = timed(|| herd::add(&mut self.other, u, v, t));
-        assert!(!matches!(answer, Added::Refused(_)), "{answer:?}");
-        let after = check(&mut self.other);
-        whole.as_secs_f64() - (before + after).as_secs_f64() / 2.0
-    }
+/// The seconds of an add of the contact, whose own check is taken to last as long as the mean of the checks before and
+/// after.
+pub fn single_add(table: &mut [u32], contact: Contact) -> f64 {
+    let (u, v, t) = (contact.from, contact.to, contact.tick);
+    check(table);
+    let before = check(table);
+    let (answer, whole) = timed(|| herd::add(table, u, v, t));
+    assert!(!matches!(answer, Added::Refused(_)), "{answer:?}");
+    let after = check(table);
+    whole.as_secs_f64() - (before + after).as_secs_f64() / 2.0
 }
 
 /// The mean of the times, without the shortest and the longest of them.
-fn inner_mean(mut times: Vec<f64>) -> f64 {
+pub fn inner_mean(mut times: Vec<f64>) -> f64 {
     times.sort_by(f64::total_cmp);
     let ends = times.len() / ENDS;
     let inner = &times[ends..times.len() - ends];

@@ -12,6 +12,7 @@ mod joining;
 mod loading;
 mod page;
 mod rows;
+mod staying;
 mod ticks;
 mod workloads;
 
@@ -20,6 +21,7 @@ use asking::Asking;
 use joining::Joining;
 use loading::Loading;
 use page::Goal;
+use staying::Staying;
 use workloads::Workload;
 
 /// The closure of document 000 over loading a log, on each workload but the last.
@@ -40,14 +42,19 @@ const JOINING: Goal = Goal::AtMost(1.1);
 const JOINING_FEW: Goal = Goal::AtMost(5.0);
 /// The contacts of each of these tables.
 const FEW: usize = 200;
+/// A list of stays less the check of its table over its adds made singly less theirs, or by joins less all else.
+const STAYING: Goal = Goal::AtMost(1.5);
+/// The records of a list of stays.
+const STAYS: usize = 5_000;
 
 fn main() {
     println!("A time is the shortest lap of turns that last 50 ms or more together, and all peers take turns.");
-    println!("The time of an add is the median over many contacts; the ratios of a join are medians over its laps.");
+    println!("The time of an add is the median over many contacts; the ratios of a join and of stays are medians over laps.");
     let workloads = workloads::all();
     let tables = print_loading(&workloads);
     print_calls(&workloads, tables);
     print_joins(&workloads);
+    print_stays();
     growth::print();
 }
 
@@ -150,4 +157,28 @@ fn print_joins(workloads: &[Workload]) {
     let ratio = join / read;
     let (number, verdict) = (page::number(ratio), page::verdict(JOINING_FEW.met(ratio)));
     println!("largest table, {FEW} contacts joined with {FEW}, over one read of the words of both tables: {number}; goal {JOINING_FEW}, {verdict}");
+}
+
+/// Prints the ratios of adding the contacts of many stays, and of stays that share nothing.
+fn print_stays() {
+    let opening = workloads::SEASON_OPENING;
+    let (n, ticks) = (opening.animals, opening.ticks);
+    page::head(
+        &format!("Adding the contacts of {STAYS} stays of {n} animals in {ticks} ticks, less the check of the table: over the same adds"),
+        &["made singly", "made by joins", "in Rust"],
+    );
+    page::goals(&[STAYING, STAYING]);
+    let mut staying = Staying::new(opening, workloads::stays(STAYS));
+    let stays = staying.run();
+    let cells = [
+        STAYING.judged_in_doubt(stays.singly.number, stays.singly.doubt),
+        STAYING.judged_in_doubt(stays.joined.number, stays.joined.doubt),
+        page::number(stays.rust),
+    ];
+    page::line(&format!("{} contacts", staying.contacts()), &cells);
+    println!("open: beside the check of the table an add was too short to be measured well enough");
+    let mut apart = Staying::new(opening, workloads::stays_apart(STAYS));
+    let (call, read) = apart.call_and_read();
+    let (contacts, number) = (apart.contacts(), page::number(call / read));
+    println!("{STAYS} stays that share nothing, {contacts} contacts, over one read of the words of the table: {number}");
 }

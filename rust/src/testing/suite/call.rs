@@ -15,6 +15,8 @@ pub enum Call {
     Add(u32, u32, u32),
     /// The second table.
     Join(Vec<u32>),
+    /// The words of the stays.
+    Stays(Vec<u32>),
     /// The buffer.
     WriteLog(Vec<u32>),
     /// From, to, first, last.
@@ -63,6 +65,7 @@ impl Call {
             Call::ReadLog(..) => Export::ReadLog,
             Call::Add(..) => Export::Add,
             Call::Join(..) => Export::Join,
+            Call::Stays(..) => Export::Stays,
             Call::WriteLog(..) => Export::WriteLog,
             Call::Reach(..) => Export::Reach,
             Call::Earliest(..) => Export::Earliest,
@@ -106,6 +109,11 @@ impl Call {
                 let second = lend(1, second).freeze();
                 let answer = crate::join(&mut table, &second);
                 Outcome::new(answer, &table, &second)
+            }
+            Call::Stays(ref stays) => {
+                let stays = lend(1, stays).freeze();
+                let answer = crate::stays(&mut table, &stays);
+                Outcome::new(answer, &table, &stays)
             }
             Call::WriteLog(ref buffer) => {
                 let (table, mut buffer) = (table.freeze(), lend(1, buffer));
@@ -164,6 +172,10 @@ impl Call {
             Call::Join(ref second) => {
                 let (answer, after) = known.join(table, &Known::by_words(second));
                 Outcome::new(answer, &after, second)
+            }
+            Call::Stays(ref stays) => {
+                let (answer, after) = known.stays(table, stays);
+                Outcome::new(answer, &after, stays)
             }
             Call::WriteLog(ref buffer) => {
                 let (answer, after) = known.write_log(buffer);

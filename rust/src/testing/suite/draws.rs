@@ -5,7 +5,7 @@ use super::lent::Lent;
 use super::reply::Export;
 use crate::testing::cases;
 use crate::testing::random::Random;
-use crate::testing::words::{self, Cells, Contact, Interval, Opening};
+use crate::testing::words::{self, Cells, Contact, Interval, Opening, Stay};
 
 impl Lent {
     /// A call of this kind.
@@ -21,6 +21,7 @@ impl Lent {
                 Call::Add(u, v, t)
             }
             Export::Join => Call::Join(self.second(random)),
+            Export::Stays => Call::Stays(stays(random, opening)),
             Export::WriteLog => Call::WriteLog(buffer(random, self.held.len() + 2)),
             Export::Reach => Call::Reach(u, v, first, last),
             Export::Earliest => {
@@ -227,6 +228,21 @@ pub fn window_about(random: &mut Random, opening: Opening, taken: Interval) -> (
             let end = random.between(last, opening.last_arrival());
             (random.between(1, first), end)
         }
+    }
+}
+
+/// The words of a list of stays, mostly of legal ones; now and then one is not, or words were damaged.
+pub fn stays(random: &mut Random, opening: Opening) -> Vec<u32> {
+    let mut list = cases::stays(random, opening, 8);
+    if random.once_in(6) && !list.is_empty() {
+        let place = random.below(list.len());
+        list[place] = random.one_of(&cases::illegal_stays(opening, list[place]));
+    }
+    let words = Stay::words(&list);
+    if random.once_in(6) {
+        cases::damaged(random, words)
+    } else {
+        words.to_vec()
     }
 }
 

@@ -1,6 +1,7 @@
 //! What any of the calls answers, and which answers each of them has.
 
-use crate::{Added, Answer, Chain, Found, Interval, Joined, Opened, Reached, Read, Written};
+use crate::{Added, Answer, Chain, Found, Interval, Joined, Opened};
+use crate::{Reached, Read, StaysAdded, Written};
 
 /// The engine's calls.
 #[derive(Clone, Copy, Debug, PartialEq, Eq, PartialOrd, Ord)]
@@ -9,6 +10,7 @@ pub enum Export {
     ReadLog,
     Add,
     Join,
+    Stays,
     WriteLog,
     Reach,
     Earliest,
@@ -34,6 +36,8 @@ pub enum Reply {
     Known(u32),
     /// So many contacts new to the first table.
     Joined(u32),
+    /// So many contacts new to the table.
+    StaysAdded(u32),
     /// So many words.
     Written(u32),
     /// It is so.
@@ -54,11 +58,12 @@ pub enum Reply {
 
 impl Export {
     /// Every call.
-    pub const ALL: [Export; 12] = [
+    pub const ALL: [Export; 13] = [
         Export::Open,
         Export::ReadLog,
         Export::Add,
         Export::Join,
+        Export::Stays,
         Export::WriteLog,
         Export::Reach,
         Export::Earliest,
@@ -70,9 +75,10 @@ impl Export {
     ];
 
     /// The calls on an open table.
-    pub const ON_OPEN_TABLES: [Export; 10] = [
+    pub const ON_OPEN_TABLES: [Export; 11] = [
         Export::Add,
         Export::Join,
+        Export::Stays,
         Export::WriteLog,
         Export::Reach,
         Export::Earliest,
@@ -90,6 +96,7 @@ impl Export {
             Export::ReadLog => &["read"],
             Export::Add => &["new", "known"],
             Export::Join => &["joined"],
+            Export::Stays => &["stays added"],
             Export::WriteLog => &["written"],
             Export::Reach | Export::Connected | Export::Claimed => &["yes", "no"],
             Export::Earliest | Export::Latest => &["at", "nothing"],
@@ -104,6 +111,7 @@ impl Export {
             Export::Open => &[1, 2, 3, 4],
             Export::ReadLog => &[11, 4, 12, 13, 14],
             Export::Join => &[5, 6, 17],
+            Export::Stays => &[5, 6, 18],
             Export::WriteLog => &[5, 6, 15],
             Export::Connected => &[5, 6, 9],
             Export::Reached => &[5, 6, 7, 9],
@@ -123,6 +131,7 @@ impl Reply {
             Reply::New(_) => "new",
             Reply::Known(_) => "known",
             Reply::Joined(_) => "joined",
+            Reply::StaysAdded(_) => "stays added",
             Reply::Written(_) => "written",
             Reply::Yes => "yes",
             Reply::No => "no",
@@ -168,6 +177,15 @@ impl From<Joined> for Reply {
         match answer {
             Joined::New(contacts) => Reply::Joined(contacts),
             Joined::Refused(number) => Reply::Refused(number),
+        }
+    }
+}
+
+impl From<StaysAdded> for Reply {
+    fn from(answer: StaysAdded) -> Reply {
+        match answer {
+            StaysAdded::New(contacts) => Reply::StaysAdded(contacts),
+            StaysAdded::Refused(number) => Reply::Refused(number),
         }
     }
 }
