@@ -1,8 +1,8 @@
 //! Safe calls of the proved contact tracing engine.
 //!
 //! The caller lends a table of 1 + n·n·(τ+1) words for n animals and τ ticks. [`open`] opens it, [`add`] adds a contact,
-//! [`join`] adds all contacts of a second table, [`stays`] adds those of animals that were in one pen at a time,
-//! [`read_log`] loads a whole log and [`write_log`] writes one. [`reach`], [`earliest`], [`latest`], [`connected`],
+//! [`join`] adds all contacts of a second table, [`stays`] adds those of animals that were in the same pen at the same
+//! tick, [`read_log`] loads a whole log and [`write_log`] writes one. [`reach`], [`earliest`], [`latest`], [`connected`],
 //! [`reached`] and [`chain`] ask about the journeys of the contacts that were added, and [`claimed`] judges a chain that
 //! somebody claims. A call keeps nothing but the words lent to it, and reads and writes only these.
 //!
@@ -52,7 +52,7 @@
 //! | `stays` | 18 | a record is no legal stay, or the last one is incomplete |
 //!
 //! `join` judges its first table by 5 and 6, and then its second one likewise. A stay is legal when its animal is below n,
-//! its pen is 0 to 63, its ticks are in range, and its first is not after its last.
+//! its pen is 0 to 63, its ticks are in range, and its first tick is not after its last.
 //!
 //! The tick of a contact and those of a stay are 1 to τ; every tick of a question is 1 to τ+δ, with δ the carry time.
 //!

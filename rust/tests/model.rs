@@ -386,27 +386,32 @@ fn joining_is_adding_what_the_second_holds() {
     }
 }
 
+/// The contacts of the stays, by listing the animals of each pen at each tick.
+fn met_by_pens(opening: Opening, stays: &[Stay]) -> Vec<Contact> {
+    let mut contacts = Vec::new();
+    for tick in 1..=opening.ticks {
+        for pen in 0..=LAST_PEN {
+            let here = |stay: &&Stay| stay.pen == pen && stay.first <= tick && tick <= stay.last;
+            let animals = stays.iter().filter(here).map(|stay| stay.animal);
+            let animals: BTreeSet<u32> = animals.collect();
+            for &u in &animals {
+                let others = animals.iter().filter(|&&v| v != u);
+                contacts.extend(others.map(|&v| Contact::new(u, v, tick)));
+            }
+        }
+    }
+    contacts
+}
+
 #[test]
-fn stays_are_adding_who_is_in_one_pen() {
+fn stays_add_the_animals_of_one_pen_to_each_other() {
     let mut random = Random::new(208);
     let (mut new, mut refused) = (0, 0);
     for round in 0..1_500 {
         let opening = draws::opening(&mut random);
         let first = words::table(opening, &draws::cells(&mut random, opening));
         let list = cases::stays(&mut random, opening, 8);
-        let mut contacts = Vec::new();
-        for tick in 1..=opening.ticks {
-            for pen in 0..=LAST_PEN {
-                let here =
-                    |stay: &&Stay| stay.pen == pen && stay.first <= tick && tick <= stay.last;
-                let animals = list.iter().filter(here).map(|stay| stay.animal);
-                let animals: BTreeSet<u32> = animals.collect();
-                for &u in &animals {
-                    let others = animals.iter().filter(|&&v| v != u);
-                    contacts.extend(others.map(|&v| Contact::new(u, v, tick)));
-                }
-            }
-        }
+        let mut contacts = met_by_pens(opening, &list);
         if round % 2 == 0 {
             contacts.reverse();
         }

@@ -4,6 +4,7 @@ use herd::testing::calls::Known;
 use herd::testing::cases;
 use herd::testing::check;
 use herd::testing::compare::same_words;
+use herd::testing::contents::Contents;
 use herd::testing::model::{self, Contacts};
 use herd::testing::random::Random;
 use herd::testing::suite::{draws, Call, Export, Lent, Reply, Suite};
@@ -329,21 +330,53 @@ fn three_and_four_stays_of_a_short_calendar() {
     for (ticks, carry) in [(1, 2), (3, 1), (4, 1), (6, 2)] {
         let opening = Opening::new(3, ticks, carry);
         let every = every_stay(opening);
+        let (mut with_new, mut with_known) = (0, 0);
         for round in 0..10_000 {
             let list: Vec<Stay> = (0..3 + round % 2).map(|_| random.one_of(&every)).collect();
             let contacts = cases::log_contacts(&mut random, opening, 3);
             let lent = Lent::fresh(opening, contacts.into_iter().collect());
-            require(&mut suite, &lent, &list, new_to(&lent, &list));
+            let new = new_to(&lent, &list);
+            require(&mut suite, &lent, &list, new);
+            with_new += u32::from(new > 0);
+            with_known += u32::from(new < model::met(&list).len());
         }
+        let counted = (opening, with_new, with_known);
+        assert!(with_new > 5_000 && with_known > 1_000, "{counted:?}");
     }
 }
 
-/// Whether two records at different places of the list are such, the one and the other.
-fn any_two(list: &[Stay], are_such: impl Fn(&Stay, &Stay) -> bool) -> bool {
+/// Whether the list has two records at different places for which this holds, in one order or the other.
+fn any_two(list: &[Stay], holds: impl Fn(&Stay, &Stay) -> bool) -> bool {
     let mut places = 0..list.len();
     places.any(|one| {
         let mut others = (0..list.len()).filter(|&other| other != one);
-        others.any(|other| are_such(&list[one], &list[other]))
+        others.any(|other| holds(&list[one], &list[other]))
+    })
+}
+
+/// Whether a stay begins at the tick at which a stay of another animal in its pen ends.
+fn any_touch(list: &[Stay]) -> bool {
+    any_two(list, |one, other| {
+        one.animal != other.animal && one.pen == other.pen && one.last == other.first
+    })
+}
+
+/// Whether two stays of one animal share a tick.
+fn any_overlap(list: &[Stay]) -> bool {
+    any_two(list, |one, other| {
+        one.animal == other.animal && one.first <= other.first && other.first <= one.last
+    })
+}
+
+/// Whether the table afterwards has an interval that neither the table before nor the contacts alone have.
+fn any_across(before: &[u32], contacts: &Contacts, after: &[u32]) -> bool {
+    let before = check::open_table(before).expect("a well-formed table");
+    let after = check::open_table(after).expect("a well-formed table");
+    let alone = model::minimal_intervals(before.opening(), contacts);
+    let mut cells = after.cells().iter().zip(before.cells()).zip(&alone);
+    cells.any(|((after, before), alone)| {
+        let mut rows = after.iter();
+        rows.any(|row| !before.contains(row) && !alone.contains(row))
     })
 }
 
@@ -357,37 +390,24 @@ fn tables_that_adds_built() {
         let lent = draws::built(&mut random);
         let opening = lent.opening;
         let list = cases::stays(&mut random, opening, 8);
-        require(&mut suite, &lent, &list, new_to(&lent, &list));
+        let (met, new) = (model::met(&list), new_to(&lent, &list));
+        require(&mut suite, &lent, &list, new);
         let (answer, after) = added(&lent.words, &list);
-        assert_eq!(answer, StaysAdded::New(new_to(&lent, &list) as u32));
+        assert_eq!(answer, StaysAdded::New(new as u32));
         let all = both(&lent, &list);
         same_words(&after, &model::fresh_table(opening, &all), (opening, &list));
-
-        let met = model::met(&list);
-        let alone = model::minimal_intervals(opening, &met);
-        let before = check::open_table(&lent.words).expect("a well-formed table");
-        let stored = check::open_table(&after).expect("a well-formed table");
-        let of_neither = |pair: usize| {
-            let (before, alone) = (&before.cells()[pair], &alone[pair]);
-            let mut rows = stored.cells()[pair].iter();
-            rows.any(|row| !before.contains(row) && !alone.contains(row))
-        };
-        across += u32::from((0..opening.pairs()).any(of_neither));
-        known += u32::from(new_to(&lent, &list) < met.len());
+        across += u32::from(any_across(&lent.words, &met, &after));
+        known += u32::from(new < met.len());
         slow += u32::from(opening.carry >= opening.ticks && !met.is_empty());
         last += u32::from(met.iter().any(|contact| contact.tick == opening.ticks));
-        touching += u32::from(any_two(&list, |one, other| {
-            one.animal != other.animal && one.pen == other.pen && one.last == other.first
-        }));
-        overlapping += u32::from(any_two(&list, |one, other| {
-            one.animal == other.animal && one.first <= other.first && other.first <= one.last
-        }));
+        touching += u32::from(any_touch(&list));
+        overlapping += u32::from(any_overlap(&list));
         repeated += u32::from(any_two(&list, |one, other| one == other));
     }
-    let met = [across, known, slow, last];
-    assert!(met.iter().all(|&times| times > 400), "{met:?}");
-    let met = [touching, overlapping, repeated];
-    assert!(met.iter().all(|&times| times > 400), "{met:?}");
+    let tables = [across, known, slow, last];
+    assert!(tables.iter().all(|&times| times > 400), "{tables:?}");
+    let lists = [touching, overlapping, repeated];
+    assert!(lists.iter().all(|&times| times > 400), "{lists:?}");
 }
 
 #[test]
@@ -496,6 +516,7 @@ fn animals_together_in_two_pens_at_once() {
 #[test]
 fn longer_stays_in_pieces() {
     let mut random = Random::new(1_407);
+    let (mut changed, mut longer) = (0, 0);
     for round in 0..2_000 {
         let lent = drawn(&mut random, round);
         let list = cases::stays(&mut random, lent.opening, 8);
@@ -508,7 +529,11 @@ fn longer_stays_in_pieces() {
         let whole = added(&lent.words, &list);
         assert_eq!(answer, whole.0, "{:?} {list:?}", lent.opening);
         same_words(&after, &whole.1, (lent.opening, &list));
+        let is_changed = after != lent.words;
+        changed += u32::from(is_changed);
+        longer += u32::from(is_changed && pieces.len() > list.len());
     }
+    assert!(changed > 700 && longer > 400, "{changed} {longer}");
 }
 
 #[test]
@@ -626,23 +651,35 @@ fn incomplete_records_alone_and_behind_others() {
     }
 }
 
+/// The words of every record with one number of each list.
+fn every_record(numbers: [&[u32]; 4]) -> Vec<Vec<u32>> {
+    let mut records = vec![Vec::new()];
+    for choices in numbers {
+        let mut longer = Vec::new();
+        for record in &records {
+            let with = |number: &u32| [&record[..], &[*number]].concat();
+            longer.extend(choices.iter().map(with));
+        }
+        records = longer;
+    }
+    records
+}
+
 #[test]
 fn numbers_at_their_edges() {
     let mut suite = Suite::default();
     for (animals, ticks, carry) in [(1, 1, 1), (2, 1, 256), (2, 5, 1), (3, 4, 2)] {
         let lent = empty(Opening::new(animals, ticks, carry));
         let beside = [0, LAST_PEN].map(|pen| Stay::new(0, pen, 1, ticks));
+        let (before, behind) = Stay::words(&beside).split_at(4);
         let far = [1 << 8, 1 << 16, 1 << 31, u32::MAX - 1, u32::MAX];
         let edges = |near: &[u32]| [near, &far].concat();
-        for animal in edges(&[0, 1, animals - 1, animals, animals + 1]) {
-            for pen in edges(&[0, 1, 62, 63, 64, 65]) {
-                for first in edges(&[0, 1, 2, ticks, ticks + 1, ticks + carry]) {
-                    for last in edges(&[0, 1, 2, ticks, ticks + 1, ticks + carry]) {
-                        let list = [beside[0], Stay::new(animal, pen, first, last), beside[1]];
-                        suite.compare(&lent, &call(&list));
-                    }
-                }
-            }
+        let animal = edges(&[0, 1, animals - 1, animals, animals + 1]);
+        let pen = edges(&[0, 1, 62, 63, 64, 65]);
+        let tick = edges(&[0, 1, 2, ticks, ticks + 1, ticks + carry]);
+        for record in every_record([&animal, &pen, &tick, &tick]) {
+            let list = [before, &record, behind].concat();
+            suite.compare(&lent, &Call::Stays(list));
         }
     }
     suite.at_least(100, &[Export::Stays], &[18]);
@@ -754,12 +791,12 @@ fn random_words_in_both() {
 fn thousands_of_records() {
     let mut random = Random::new(1_417);
     let mut suite = Suite::default();
-    for (animals, ticks, carry, records, longest) in [
-        (5, 12, 1, 5_000, 1),
-        (12, 40, 2, 3_000, 4),
-        (30, 30, 1, 2_000, 2),
-        (9, 60, 256, 2_500, 60),
-        (1, 9, 1, 4_000, 9),
+    for (animals, ticks, carry, records, longest, least) in [
+        (5, 12, 1, 5_000, 1, 200),
+        (12, 40, 2, 3_000, 4, 4_000),
+        (30, 30, 1, 2_000, 2, 3_000),
+        (9, 60, 256, 2_500, 60, 4_000),
+        (1, 9, 1, 4_000, 9, 0),
     ] {
         let opening = Opening::new(animals, ticks, carry);
         let contacts = cases::log_contacts(&mut random, opening, 30);
@@ -769,7 +806,9 @@ fn thousands_of_records() {
             let pen = random.between(0, LAST_PEN);
             list.push(cases::stay(&mut random, opening, pen, longest));
         }
-        require(&mut suite, &lent, &list, new_to(&lent, &list));
+        let new = new_to(&lent, &list);
+        assert!(new >= least, "{opening:?} {new}");
+        require(&mut suite, &lent, &list, new);
         let mut illegal = list.clone();
         let place = random.one_of(&[0, records / 2, records - 1]);
         illegal[place].pen = LAST_PEN + 1;
@@ -777,6 +816,12 @@ fn thousands_of_records() {
         let words = Stay::words(&list);
         require_18(&mut suite, &lent, &words[..words.len() - 1]);
     }
+}
+
+#[test]
+fn thousands_of_records_that_share_nothing_or_one_tick() {
+    let mut random = Random::new(1_421);
+    let mut suite = Suite::default();
     let opening = Opening::new(40, 60, 3);
     let mut apart = Vec::new();
     for pen in 0..=LAST_PEN {
@@ -799,6 +844,7 @@ fn thousands_of_records() {
 fn wide_tables() {
     let mut random = Random::new(1_418);
     let mut suite = Suite::default();
+    let mut all_new = 0;
     for (animals, ticks, carry) in [
         (2, 1024, 1),
         (2, 1024, 256),
@@ -823,13 +869,17 @@ fn wide_tables() {
             list.extend(stays([(last, 63, late, ticks), (0, 63, ticks, ticks)]));
             list.extend(stays([(last / 2, 0, 1, 1), (last, 0, 1, 1)]));
             random.shuffle(&mut list);
-            require(&mut suite, &lent, &list, new_to(&lent, &list));
+            let new = new_to(&lent, &list);
+            assert!(new > 0, "{opening:?} {list:?}");
+            require(&mut suite, &lent, &list, new);
+            all_new += new;
             for illegal in cases::illegal_stays(opening, list[0]) {
                 let list = [&list[..], &[illegal]].concat();
                 require_18(&mut suite, &lent, Stay::words(&list));
             }
         }
     }
+    assert!(all_new > 150, "{all_new}");
 }
 
 #[test]
@@ -891,33 +941,51 @@ fn new_contacts(reply: Reply) -> usize {
     }
 }
 
+/// The table after these calls on an empty one, its contacts, and the answers, which must tell how many were new.
+fn after_all(opening: Opening, calls: &[Call]) -> (Vec<u32>, Contacts, Vec<Reply>) {
+    let (mut table, mut held) = (empty(opening).words, Contacts::new());
+    let mut replies = Vec::new();
+    for call in calls {
+        let before = held.len();
+        held.extend(contacts_of(opening, call));
+        let made = call.made(&table);
+        let new = new_contacts(made.reply);
+        assert_eq!(new, held.len() - before, "{opening:?} {call:?}");
+        table = made.table;
+        replies.push(made.reply);
+    }
+    (table, held, replies)
+}
+
+/// The table into which the log of these contacts was read.
+fn read(random: &mut Random, opening: Opening, contacts: &Contacts) -> Vec<u32> {
+    let mut table = random.words(opening.table_words());
+    let log = words::log(opening, contacts.iter().copied());
+    let answer = herd::read_log(&log, &mut table);
+    assert_eq!(answer, Read::Contacts(contacts.len() as u32), "{opening:?}");
+    table
+}
+
 #[test]
 fn adds_joins_and_stays_in_any_order() {
     let mut random = Random::new(1_420);
+    let exports = [Export::Add, Export::Join, Export::Stays];
     let (mut refused, mut by_each) = (0, [0; 3]);
     for _ in 0..2_000 {
         let lent = empty(draws::opening(&mut random));
         let opening = lent.opening;
-        let exports = [Export::Add, Export::Join, Export::Stays];
         let mut calls = Vec::new();
         for _ in 0..random.between(1, 12) {
             let export = random.one_of(&exports);
             calls.push(lent.draw(&mut random, export));
         }
-        let mut tables = Vec::new();
-        let mut all = Contacts::new();
+        let (mut tables, mut all) = (Vec::new(), Contacts::new());
         for _ in 0..2 {
-            let (mut table, mut held) = (lent.words.clone(), Contacts::new());
-            for call in &calls {
-                let before = held.len();
-                held.extend(contacts_of(opening, call));
-                let made = call.made(&table);
-                let new = new_contacts(made.reply);
-                assert_eq!(new, held.len() - before, "{opening:?} {call:?}");
-                table = made.table;
-                refused += u32::from(matches!(made.reply, Reply::Refused(_)));
+            let (table, held, replies) = after_all(opening, &calls);
+            for (call, reply) in calls.iter().zip(replies) {
+                refused += u32::from(matches!(reply, Reply::Refused(_)));
                 let export = exports.iter().position(|&export| export == call.export());
-                by_each[export.expect("one of the three")] += new;
+                by_each[export.expect("one of the three")] += new_contacts(reply);
             }
             tables.push(table);
             all = held;
@@ -925,11 +993,7 @@ fn adds_joins_and_stays_in_any_order() {
         }
         same_words(&tables[0], &tables[1], (opening, &calls));
         same_words(&tables[0], &model::fresh_table(opening, &all), opening);
-        let number = all.len() as u32;
-        let mut read = random.words(opening.table_words());
-        let answer = herd::read_log(&words::log(opening, all), &mut read);
-        assert_eq!(answer, Read::Contacts(number), "{opening:?}");
-        same_words(&tables[0], &read, opening);
+        same_words(&tables[0], &read(&mut random, opening, &all), opening);
     }
     assert!(refused > 2_000, "{refused}");
     assert!(by_each.iter().all(|&new| new > 4_000), "{by_each:?}");

@@ -160,7 +160,7 @@ module _ {f : ℕ → List Contact} {m : ℕ} {T₀ T : List ℕ} {new i : ℕ} 
     below-addable = added-addable (w .added) _ _ (from-next f m i h)
 
     module _ {r : ℕ} (g : r ≡ newAdds engine T (f i)) where
-      -- Their number can be told.
+      -- The number of its new contacts can be told.
       pub below-few : Addable T₀ (flat f m) → new + r ≤ maxContacts
       below-few = added-few (w .added) _ _ (from-next f m i h) g
 

@@ -1,4 +1,5 @@
-// Adding lists of contacts to a table that passed its checks, contact by contact, and counting those that are new to it.
+// Adding a contact to a table that passed its checks and counting it where it is new; proofs/ has what loops that add lists
+// of contacts need.
 ghost use mathlib.Core.Path.{_≡_};
 ghost use mathlib.Core.List.{[], _∷_};
 ghost use Rattle.journeys.specs.Journey.{contact};

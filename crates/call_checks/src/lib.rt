@@ -1,4 +1,4 @@
-// All checks of each call on an open table: its groups, one after the other. Nothing is written.
+// All checks of each call on an open table but stays: its groups, one after the other. Nothing is written.
 ghost use mathlib.Core.Path.{_≡_};
 ghost use mathlib.Core.Option.{none};
 ghost use Rattle.journeys.specs.Journey.{contact};

@@ -77,7 +77,7 @@ module _ (T : List ℕ) (p : ValidTable T) where
   pub run-length : (A : List Contact) → length (run engine T A) ≡ length T
   run-length A = laid-length (run-laid A (valid-laid T p) .laid) ∙ sym (laid-length (valid-laid T p))
 
-  -- So does one that a refusal may keep from being made.
+  -- A list of calls that a refusal may keep from being made leaves a table that passes them too.
   pub unless-valid : (A : List Contact) (o : Option Refusal) → ValidTable (unless o (run engine T A) T)
   unless-valid A none = run-valid A
   unless-valid A (some r) = p

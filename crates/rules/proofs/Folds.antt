@@ -26,6 +26,13 @@ and-intro a b p q = and-eq-true-iff a b .1 (p, q)
 pub both-iff : {P Q : Type 0} {a b : Bool} → (a ≡ true) ↔ P → (b ≡ true) ↔ Q → ((a && b) ≡ true) ↔ (P × Q)
 both-iff {a = a} {b = b} p q = (λ e. (p .0 (and-left a b e), q .0 (and-right a b e)), λ h. and-intro a b (p .1 (h .0)) (q .1 (h .1)))
 
+-- Two tests that pass in the same cases are the same.
+pub tests-same : {P Q : Type 0} {a b : Bool} → (a ≡ true) ↔ P → (b ≡ true) ↔ Q → P ↔ Q → a ≡ b
+tests-same {a = true} {b = true} p q e = refl
+tests-same {a = true} {b = false} p q e = sym (q .1 (e .0 (p .0 refl)))
+tests-same {a = false} {b = true} p q e = p .1 (e .1 (q .0 refl))
+tests-same {a = false} {b = false} p q e = refl
+
 -- A test that means P passes exactly when P holds.
 pub passes-iff : {P : Type 0} {b : Bool} → Outcome P (¬ P) b → (b ≡ true) ↔ P
 passes-iff (holds p) = (λ e. p, λ q. refl)
@@ -223,6 +230,12 @@ map-agree f g (b ∷ l) e a m =
     let p : f b ≡ g b = cc in
     let q : map f l ≡ map g l = cc in
     ⊎-elim (λ h. subst (λ c. f c ≡ g c) (sym h) p) (map-agree f g l q a) (List·Memᴰ·cases-cons m)
+
+-- No part has an element.
+pub flat-none : {A : Type 0} (f : ℕ → List A) (n : ℕ) → ((k : ℕ) → f k ≡ []) → flat f n ≡ []
+unfolding flat
+flat-none f zero h = refl
+flat-none f (suc n) h = rw (flat-none f n h, h n) refl
 
 -- ---- the parts from one on
 

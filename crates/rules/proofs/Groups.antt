@@ -1,5 +1,6 @@
 -- Groups of checks: one refuses by itself, or leaves it to the checks behind it.
 use mathlib.Core.Path.{_≡_, refl, sym, _∙_}
+use mathlib.Core.Logic.{_≢_}
 use mathlib.Core.Bool.{Bool, true, false, not, _&&_}
 use mathlib.Core.Option.{Option, none, some}
 use mathlib.Core.List.{List}
@@ -56,3 +57,12 @@ window-group T first last = both-groups (one-check (windowInRange T first last) 
 -- On a table that passed 5 and 6, the checks are those behind them.
 pub behind-valid : (T : List ℕ) → ValidTable T → (o : Option Refusal) → ensureTable T o ≡ o
 behind-valid T p o = rw (p .opens, p .formed) refl
+
+-- Any other refusal than 5 and 6 was given behind them, on a table that passes both.
+pub refused-behind : (T : List ℕ) (o : Option Refusal) (r : Refusal) → r ≢ NotOpen → r ≢ NotWellFormed → ensureTable T o ≡ some r → ValidTable T × (o ≡ some r)
+refused-behind T o r p q e = go (isOpen T) (wellFormed T) refl refl e
+  where
+    go : (a b : Bool) → isOpen T ≡ a → wellFormed T ≡ b → ensure a NotOpen (ensure b NotWellFormed o) ≡ some r → ValidTable T × (o ≡ some r)
+    go true true f g h = (record { opens = f; formed = g }, h)
+    go true false f g h = let z : r ≡ NotWellFormed = cc in absurd (q z)
+    go false b f g h = let z : r ≡ NotOpen = cc in absurd (p z)

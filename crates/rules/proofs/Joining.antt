@@ -13,11 +13,11 @@ use Rattle.journeys.specs.Journey.{Contact, Contacts, In, Union}
 use Rattle.journeys.proofs.Tests.{never}
 use Rattle.words.specs.Words.{animalsOf, ticksOf}
 use Rattle.rules.specs.declared.Refusal.{Refusal}
-use Rattle.rules.specs.declared.Refusal.the-variants.{NotOpen, NotWellFormed, DifferentOpenings}
+use Rattle.rules.specs.declared.Refusal.the-variants.{DifferentOpenings}
 use Rattle.rules.specs.declared.JoinAnswer.the-variants.{Joined, Refused}
 use Rattle.rules.specs.Answers.{ensure, unless, joinAnswerOf}
 use Rattle.rules.specs.Layout.{animals, ticks}
-use Rattle.rules.specs.Checks.{isOpen, wellFormed, ValidTable, ensureTable}
+use Rattle.rules.specs.Checks.{ValidTable, ensureTable}
 use Rattle.rules.specs.Adding.{Legal}
 use Rattle.rules.specs.Logs.{heldContacts}
 use Rattle.rules.specs.Fresh.{Fresh}
@@ -27,7 +27,7 @@ use Rattle.rules.specs.Joining.{ensureSameOpening, joinRefusal, joinAnsw
 use Rattle.rules.specs.JoinRule.{JoinCounts, JoinRule}
 use Rattle.rules.proofs.Judged.{ensure-iff}
 use Rattle.rules.proofs.Asked.{valid-behind}
-use Rattle.rules.proofs.Groups.{table-group, behind-valid}
+use Rattle.rules.proofs.Groups.{table-group, behind-valid, refused-behind}
 use Rattle.rules.proofs.Laid.{laid-first}
 use Rattle.rules.proofs.Fresh.{fresh-laid, fresh-animals, fresh-ticks, fresh-passes, fresh-map, fresh-unique}
 use Rattle.rules.proofs.Sorted.{earlier-irreflexive, earlier-transitive, sorted-once}
@@ -70,14 +70,9 @@ second-judged : (F S : List ℕ) (r : Refusal) → ValidTable F → ensureTable 
 unfolding joinAnswer joinRefusal
 second-judged F S r p e = rw (behind-valid F p (ensureTable S (ensureSameOpening F S none)), table-group S .refuses r e (ensureSameOpening F S none)) refl
 
--- A table is refused with 5 or 6, or not at all.
+-- 17 is neither 5 nor 6.
 not-seventeen : (T : List ℕ) (o : Option Refusal) → ensureTable T o ≡ some DifferentOpenings → ValidTable T × (o ≡ some DifferentOpenings)
-not-seventeen T o e = go (isOpen T) (wellFormed T) refl refl e
-  where
-    go : (a b : Bool) → isOpen T ≡ a → wellFormed T ≡ b → ensure a NotOpen (ensure b NotWellFormed o) ≡ some DifferentOpenings → ValidTable T × (o ≡ some DifferentOpenings)
-    go true true p q h = (record { opens = p; formed = q }, h)
-    go true false p q h = never cc
-    go false b p q h = never cc
+not-seventeen T o = refused-behind T o DifferentOpenings (λ e. never cc) (λ e. never cc)
 
 openings-differ : (F S : List ℕ) → (joinAnswer F S ≡ Refused DifferentOpenings) ↔ (ValidTable F × ValidTable S × (getD F 0 0 ≢ getD S 0 0))
 unfolding joinAnswer joinRefusal

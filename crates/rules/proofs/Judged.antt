@@ -1,10 +1,10 @@
 -- What the refusals of opening and adding say of the numbers.
-use mathlib.Core.Path.{_≡_, refl, sym, ap, _∙_, subst}
-use mathlib.Core.Logic.{_↔_, _⊎_, inl, inr, ⊎-elim, _≢_}
+use mathlib.Core.Path.{_≡_, refl, ap}
+use mathlib.Core.Logic.{_↔_, _≢_}
 use mathlib.Core.Bool.{Bool, true, false, cond, not, _&&_}
 use mathlib.Core.Option.{Option, none, some}
-use mathlib.Core.List.{List, []}
-use Prim.Native.Nat.{ℕ, _+_, _≤_, _<_}
+use mathlib.Core.List.{List}
+use Prim.Native.Nat.{ℕ, _≤_, _<_}
 use native.Mathlib.Omega.{arith}
 use lib.ListN.{length}
 use lib.Dec.{ltb, leb, eqb}
@@ -23,7 +23,7 @@ use Rattle.rules.specs.Limits.{maxAnimals, maxTicks, maxCarry}
 use Rattle.rules.specs.Opening.{Sizes, ensureSizes, openRefusal, openAnswer}
 use Rattle.rules.specs.Adding.{Legal, cellsChanged, addRefusal, addedCells, holds, addAnswer}
 use Rattle.rules.specs.CallLists.{Accepted}
-use Rattle.rules.proofs.Folds.{and-left, and-right, and-intro}
+use Rattle.rules.proofs.Folds.{and-left, and-right, and-intro, both-iff}
 
 -- ---- checks in their order
 
@@ -40,11 +40,21 @@ pub unless-cases : {A : Type 0} {a b : A} (o : Option Refusal) (P : Option Refus
 unless-cases none P f g = g refl
 unless-cases (some r) P f g = f r refl
 
+-- Tests of numbers pass exactly when what they ask holds.
+pub below-iff : (a b : ℕ) → (ltb a b ≡ true) ↔ (a < b)
+below-iff a b = (ltb-true a b, lt-ltb a b)
+
+pub most-iff : (a b : ℕ) → (leb a b ≡ true) ↔ (a ≤ b)
+most-iff a b = (leb-true a b, le-leb a b)
+
+pub equal-iff : (a b : ℕ) → (eqb a b ≡ true) ↔ (a ≡ b)
+equal-iff a b = (eqb-true a b, eq-eqb a b)
+
+pub differ-iff : (a b : ℕ) → (not (eqb a b) ≡ true) ↔ (a ≢ b)
+differ-iff a b = (λ e. eqb-false a b (not-true (eqb a b) e), λ d. ap not (ne-eqb a b d))
+
 pub within-iff : (low k high : ℕ) → (within low k high ≡ true) ↔ ((low ≤ k) × (k ≤ high))
-within-iff low k high = (
-  λ e. (leb-true low k (and-left (leb low k) (leb k high) e), leb-true k high (and-right (leb low k) (leb k high) e)),
-  λ h. and-intro (leb low k) (leb k high) (le-leb low k (h .0)) (le-leb k high (h .1)),
-)
+within-iff low k high = both-iff (most-iff low k) (most-iff k high)
 
 -- ---- opening
 

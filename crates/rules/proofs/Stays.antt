@@ -1,36 +1,36 @@
 -- What is promised of a list of stays.
 use mathlib.Core.Path.{_≡_, refl, sym, ap, _∙_, subst}
 use mathlib.Core.Logic.{_↔_, _⊎_, inl, inr, ⊎-elim, _≢_}
-use mathlib.Core.Bool.{Bool, true, false, not, _&&_}
+use mathlib.Core.Bool.{Bool, true, false, _&&_}
 use mathlib.Core.Option.{Option, none, some}
-use mathlib.Core.List.{List, [], _∷_, List·Memᴰ, List·Memᴰ·head, List·Memᴰ·tail, List·Memᴰ·cases-cons, List·Memᴰ·not-nil}
-use Prim.Native.Nat.{ℕ, _+_, _%_, _≤_, _<_}
+use mathlib.Core.List.{List, [], _∷_, List·Memᴰ, List·Memᴰ·head, List·Memᴰ·tail, List·Memᴰ·cases-cons, List·Memᴰ·not-nil, Memᴰ·append-right}
+use Prim.Native.Nat.{ℕ, _+_, _%_, _<_}
 use native.Mathlib.Omega.{arith}
 use lib.ListN.{length}
-use lib.Dec.{leb, ltb, eqb}
-use borrow.Author.Tests.{ltb-true, lt-ltb, leb-true, le-leb, eqb-true, eqb-false, eq-eqb, ne-eqb, not-true}
+use lib.Dec.{eqb}
+use borrow.Author.Tests.{eqb-true, eqb-false, eq-eqb}
 use Rattle.journeys.specs.Journey.{Contact, contact, Contacts, In, Union, Same}
-use Rattle.journeys.proofs.Tests.{never}
+use Rattle.journeys.proofs.Tests.{never, untrue}
 use Rattle.rules.specs.declared.Refusal.{Refusal}
-use Rattle.rules.specs.declared.Refusal.the-variants.{NotOpen, NotWellFormed, IllegalStay}
+use Rattle.rules.specs.declared.Refusal.the-variants.{IllegalStay}
 use Rattle.rules.specs.declared.Stay.{Stay}
 use Rattle.rules.specs.declared.StaysAnswer.the-variants.{Added, Refused}
 use Rattle.rules.specs.Limits.{maxContacts, maxPen}
 use Rattle.rules.specs.Answers.{ensure, unless, staysAnswerOf}
 use Rattle.rules.specs.Folds.{flat, anyOf}
 use Rattle.rules.specs.Layout.{animals, ticks}
-use Rattle.rules.specs.Checks.{isOpen, wellFormed, ValidTable, ensureTable}
+use Rattle.rules.specs.Checks.{ValidTable, ensureTable}
 use Rattle.rules.specs.Adding.{Legal}
 use Rattle.rules.specs.Logs.{heldContacts}
 use Rattle.rules.specs.Fresh.{Fresh}
 use Rattle.rules.specs.Orders.{Sorted, Earlier}
 use Rattle.rules.specs.CallLists.{engine, run, newAdds, LegalOf}
 use Rattle.rules.specs.Stays.{staysOf, isWhole, isStay, ensureEach, ensureStays, staysRefusal, isThere, meet, met, stayContacts, staysAnswer, staysLeaves}
-use Rattle.rules.specs.StayRule.{IsStay, AreStays, There, Met, StaysCount, StayRule}
+use Rattle.rules.specs.StayRule.{IsStay, AreStays, FirstIllegal, There, Met, StaysCount, StayRule}
 use Rattle.rules.proofs.Folds.{both-iff, any-iff}
-use Rattle.rules.proofs.Judged.{none-some, ensure-iff, within-iff}
+use Rattle.rules.proofs.Judged.{none-some, ensure-iff, below-iff, most-iff, equal-iff, differ-iff, within-iff}
 use Rattle.rules.proofs.Asked.{valid-behind}
-use Rattle.rules.proofs.Groups.{none-is-not-some, table-group, behind-valid}
+use Rattle.rules.proofs.Groups.{none-is-not-some, table-group, behind-valid, refused-behind}
 use Rattle.rules.proofs.Sorted.{sorted-unique, earlier-irreflexive, earlier-transitive}
 use Rattle.rules.proofs.LogOrder.{order-sorted, order-iff, order-few}
 use Rattle.rules.proofs.Fresh.{fresh-animals, fresh-ticks, fresh-passes, fresh-map}
@@ -40,12 +40,6 @@ use Rattle.rules.proofs.AnyOrder.{run-same, same-number, unless-valid, 
 use Rattle.rules.proofs.NewContacts.{number-same, list-held, list-new}
 
 -- ---- which contacts two records tell
-
-equal-iff : (a b : ℕ) → (eqb a b ≡ true) ↔ (a ≡ b)
-equal-iff a b = (eqb-true a b, eq-eqb a b)
-
-pub differ-iff : (a b : ℕ) → (not (eqb a b) ≡ true) ↔ (a ≢ b)
-differ-iff a b = (λ e. eqb-false a b (not-true (eqb a b) e), λ d. ap not (ne-eqb a b d))
 
 pub there-iff : (s : Stay) (t : ℕ) → (isThere s t ≡ true) ↔ There s t
 there-iff s t = let w = within-iff (s .first) t (s .last) in (
@@ -79,8 +73,8 @@ met-iff l k = (to, of)
           other = b .0;
           one-listed = a .1;
           other-listed = b .1;
-          from-one = c .0 .0;
-          to-other = c .0 .1;
+          from-is = c .0 .0;
+          to-is = c .0 .1;
           different = c .1 .0 .0 .0;
           same-pen = c .1 .0 .0 .1;
           one-there = c .1 .0 .1;
@@ -96,7 +90,7 @@ met-iff l k = (to, of)
             m .other,
             m .other-listed,
             tells-iff k (m .one) (m .other) .1
-                ((m .from-one, m .to-other), (((m .different, m .same-pen), m .one-there), m .other-there)),
+                ((m .from-is, m .to-is), (((m .different, m .same-pen), m .one-there), m .other-there)),
           ),
         )
 
@@ -107,8 +101,8 @@ both-ways l u v t m =
       other = m .one;
       one-listed = m .other-listed;
       other-listed = m .one-listed;
-      from-one = m .to-other;
-      to-other = m .from-one;
+      from-is = m .to-is;
+      to-is = m .from-is;
       different = λ e. m .different (sym e);
       same-pen = sym (m .same-pen);
       one-there = m .other-there;
@@ -121,11 +115,11 @@ met-legal {n} {τ} each k m =
     let a = each (m .one) (m .one-listed) in
     let b = each (m .other) (m .other-listed) in
     record {
-      from-below = subst (λ u. u < n) (m .from-one) (a .animal-below);
-      to-below = subst (λ v. v < n) (m .to-other) (b .animal-below);
-      apart = λ e. m .different (m .from-one ∙ e ∙ sym (m .to-other));
-      from-one = omega (arith, a .from-one, m .one-there .from-first);
-      to-last = omega (arith, a .to-last, m .one-there .to-last);
+      from-below = subst (λ u. u < n) (m .from-is) (a .animal-below);
+      to-below = subst (λ v. v < n) (m .to-is) (b .animal-below);
+      apart = λ e. m .different (m .from-is ∙ e ∙ sym (m .to-is));
+      from-one = omega (arith, a .first-within .0, m .one-there .from-first);
+      to-last = omega (arith, a .last-within .1, m .one-there .to-last);
     }
 
 in-log-order : (T W : List ℕ) → Sorted Earlier (stayContacts T W)
@@ -145,13 +139,13 @@ module _ (T W : List ℕ) (s : AreStays (animals T) (ticks T) W) where
   pub contacts-legal : (k : Contact) → List·Memᴰ k (stayContacts T W) → Legal (animals T) (ticks T) k
   contacts-legal k m = met-legal (s .each) k (contacts-exactly k .0 m)
 
--- They are fewer than a table can hold.
+-- They are fewer than the rows of the largest table.
 pub contacts-few : (T W : List ℕ) → length (stayContacts T W) + 2 < maxContacts
 unfolding stayContacts
 contacts-few T W = pairs-few T (order-few (animals T) (ticks T) (met (staysOf W)) (λ u t h. own u t (met (staysOf W) (contact u u t)) refl))
   where
     own : (u t : ℕ) (b : Bool) → met (staysOf W) (contact u u t) ≡ b → b ≡ false
-    own u t true e = let m = met-iff (staysOf W) (contact u u t) .0 e in absurd (m .different (m .from-one ∙ sym (m .to-other)))
+    own u t true e = let m = met-iff (staysOf W) (contact u u t) .0 e in absurd (m .different (m .from-is ∙ sym (m .to-is)))
     own u t false e = refl
 
 -- ---- when stays are refused
@@ -162,16 +156,9 @@ stay-iff n τ s =
     let w =
     both-iff (both-iff (both-iff (both-iff (below-iff (s .animal) n) (most-iff (s .pen) maxPen)) (within-iff 1 (s .first) τ)) (within-iff 1 (s .last) τ))
     (most-iff (s .first) (s .last)) in (
-      λ e. let h = w .0 e in record { animal-below = h .0 .0 .0 .0; pen-within = h .0 .0 .0 .1; from-one = h .0 .0 .1 .0; in-order = h .1; to-last = h .0 .1 .1 },
-      λ h. w .1
-          ((((h .animal-below, h .pen-within), (h .from-one, omega (arith, h .in-order, h .to-last))), (omega (arith, h .from-one, h .in-order), h .to-last)), h .in-order),
+      λ e. let h = w .0 e in record { animal-below = h .0 .0 .0 .0; pen-within = h .0 .0 .0 .1; first-within = h .0 .0 .1; last-within = h .0 .1; in-order = h .1 },
+      λ h. w .1 ((((h .animal-below, h .pen-within), h .first-within), h .last-within), h .in-order),
     )
-  where
-    below-iff : (a b : ℕ) → (ltb a b ≡ true) ↔ (a < b)
-    below-iff a b = (ltb-true a b, lt-ltb a b)
-
-    most-iff : (a b : ℕ) → (leb a b ≡ true) ↔ (a ≤ b)
-    most-iff a b = (leb-true a b, le-leb a b)
 
 each-iff : (n τ : ℕ) (l : List Stay) (o : Option Refusal) → (ensureEach n τ l o ≡ none) ↔ (((s : Stay) → List·Memᴰ s l → IsStay n τ s) × (o ≡ none))
 unfolding ensureEach
@@ -204,6 +191,30 @@ unfolding ensureEach
 each-eighteen n τ [] f e = f e
 each-eighteen n τ (s ∷ l) f e = one-eighteen (isStay n τ s) (each-eighteen n τ l f) e
 
+-- The first record that is refused, or what the checks behind the records refuse.
+each-first : (n τ : ℕ) (l : List Stay) {o : Option Refusal} {r : Refusal} → ensureEach n τ l o ≡ some r → FirstIllegal n τ l ⊎ (o ≡ some r)
+unfolding ensureEach
+each-first n τ [] e = inr e
+each-first n τ (s ∷ l) {o} {r} e = go (isStay n τ s) refl e (each-first n τ l)
+  where
+    later : IsStay n τ s → FirstIllegal n τ l → FirstIllegal n τ (s ∷ l)
+    later h f =
+        record {
+          before = s ∷ f .before;
+          illegal = f .illegal;
+          behind = f .behind;
+          split = ap (λ (m : List Stay). s ∷ m) (f .split);
+          stays = λ q m. ⊎-elim (λ z. subst (IsStay n τ) (sym z) h) (f .stays q) (List·Memᴰ·cases-cons m);
+          no-stay = f .no-stay;
+        }
+
+    here : ¬ IsStay n τ s → FirstIllegal n τ (s ∷ l)
+    here d = record { before = []; illegal = s; behind = l; split = refl; stays = λ q m. absurd (List·Memᴰ·not-nil m); no-stay = d }
+
+    go : (b : Bool) → isStay n τ s ≡ b → ensure b IllegalStay (ensureEach n τ l o) ≡ some r → (ensureEach n τ l o ≡ some r → FirstIllegal n τ l ⊎ (o ≡ some r)) → FirstIllegal n τ (s ∷ l) ⊎ (o ≡ some r)
+    go true f h k = ⊎-elim (λ q. inl (later (stay-iff n τ s .0 f) q)) inr (k h)
+    go false f h k = inl (here (λ q. untrue (sym f ∙ stay-iff n τ s .1 q)))
+
 -- The records are refused with 18 or not at all.
 eighteen : (T W : List ℕ) (r : Refusal) → ensureStays T W none ≡ some r → r ≡ IllegalStay
 eighteen T W r = each-eighteen (animals T) (ticks T) (staysOf W) (one-eighteen (isWhole W) none-is-not-some)
@@ -222,7 +233,11 @@ unfolding staysAnswer staysRefusal
 table-judged T W r e = rw (table-group T .refuses r e (ensureStays T W none)) refl
 
 module _ (T W : List ℕ) where
-  refused-exactly : (staysAnswer T W ≡ Refused IllegalStay) ↔ (ValidTable T × (¬ AreStays (animals T) (ticks T) W))
+  -- Where the words are no stays, a record is the first that is none, or the last is incomplete.
+  abbrev Illegal : Type 0
+  Illegal = FirstIllegal (animals T) (ticks T) (staysOf W) ⊎ (length W % 4 ≢ 0)
+
+  refused-exactly : (staysAnswer T W ≡ Refused IllegalStay) ↔ (ValidTable T × Illegal)
   unfolding staysAnswer staysRefusal
   refused-exactly = (to, of)
     where
@@ -230,22 +245,25 @@ module _ (T W : List ℕ) where
       refused none e = never cc
       refused (some r) e = let q : r ≡ IllegalStay = cc in ap some q
 
-      valid : (a b : Bool) (o : Option Refusal) → isOpen T ≡ a → wellFormed T ≡ b → ensure a NotOpen (ensure b NotWellFormed o) ≡ some IllegalStay → ValidTable T × (o ≡ some IllegalStay)
-      valid true true o p q h = (record { opens = p; formed = q }, h)
-      valid true false o p q h = never cc
-      valid false b o p q h = never cc
+      incomplete : (b : Bool) → isWhole W ≡ b → ensure b IllegalStay none ≡ some IllegalStay → length W % 4 ≢ 0
+      incomplete true f e = none-is-not-some e
+      incomplete false f e = eqb-false (length W % 4) 0 f
 
-      to : staysAnswerOf (ensureTable T (ensureStays T W none)) (Added (newAdds engine T (stayContacts T W))) ≡ Refused IllegalStay → ValidTable T × (¬ AreStays (animals T) (ticks T) W)
+      to : staysAnswerOf (ensureTable T (ensureStays T W none)) (Added (newAdds engine T (stayContacts T W))) ≡ Refused IllegalStay → ValidTable T × Illegal
       to e =
-          let a = valid (isOpen T) (wellFormed T) (ensureStays T W none) refl refl (refused _ e) in
-          (a .0, λ s. none-some (ensureStays T W none) IllegalStay (are-iff T W .1 s) (a .1))
+          let a = refused-behind T (ensureStays T W none) IllegalStay (λ z. never cc) (λ z. never cc) (refused _ e) in
+          (a .0, ⊎-elim inl (λ z. inr (incomplete (isWhole W) refl z)) (each-first (animals T) (ticks T) (staysOf W) (a .1)))
+
+      no-stays : Illegal → ¬ AreStays (animals T) (ticks T) W
+      no-stays (inl f) s = f .no-stay (s .each (f .illegal) (subst (List·Memᴰ (f .illegal)) (sym (f .split)) (Memᴰ·append-right (f .before) (List·Memᴰ·head refl))))
+      no-stays (inr d) s = d (s .whole)
 
       behind : (o : Option Refusal) → ensureStays T W none ≡ o → (¬ AreStays (animals T) (ticks T) W) → o ≡ some IllegalStay
       behind none e d = absurd (d (are-iff T W .0 e))
       behind (some r) e d = ap some (eighteen T W r e)
 
-      of : ValidTable T × (¬ AreStays (animals T) (ticks T) W) → staysAnswerOf (ensureTable T (ensureStays T W none)) (Added (newAdds engine T (stayContacts T W))) ≡ Refused IllegalStay
-      of (p, d) = rw (behind-valid T p (ensureStays T W none), behind (ensureStays T W none) refl d) refl
+      of : ValidTable T × Illegal → staysAnswerOf (ensureTable T (ensureStays T W none)) (Added (newAdds engine T (stayContacts T W))) ≡ Refused IllegalStay
+      of (p, f) = rw (behind-valid T p (ensureStays T W none), behind (ensureStays T W none) refl (no-stays f)) refl
 
   pub added-answer : ValidTable T → AreStays (animals T) (ticks T) W → staysAnswer T W ≡ Added (newAdds engine T (stayContacts T W))
   unfolding staysAnswer
@@ -323,8 +341,8 @@ module _ (A B : List ℕ) (e : (s : Stay) → List·Memᴰ s (staysOf A) ↔ Lis
         other = m .other;
         one-listed = e (m .one) .0 (m .one-listed);
         other-listed = e (m .other) .0 (m .other-listed);
-        from-one = m .from-one;
-        to-other = m .to-other;
+        from-is = m .from-is;
+        to-is = m .to-is;
         different = m .different;
         same-pen = m .same-pen;
         one-there = m .one-there;

@@ -55,7 +55,7 @@ module _ {n τ δ : ℕ} {P : Contacts} {T : List ℕ} (f : Fresh n τ δ P T) w
       unless-after (In (heldContacts S)) (joinRefusal T S) (joinable-iff S)
       (λ j. let i = join-iff T S .0 (joinable-iff S .1 j) in subst (Fresh n τ δ (Union P (In (heldContacts S)))) (joined-leaves T S i) (first-fresh f i))
 
-  -- The stays are refused exactly when they are none of these animals and ticks.
+  -- Nothing is refused exactly when the words are stays of these animals and ticks.
   stays-none : (W : List ℕ) → (staysRefusal T W ≡ none) ↔ AreStays n τ W
   stays-none W =
       let i = stays-iff T W in

@@ -53,7 +53,7 @@ abbrev chained : List ℕ
 chained = stored (interval 1 2 ∷ []) (interval 2 3 ∷ []) (interval 1 3 ∷ [])
 
 -- A table with a first cell that is not well formed.
-abbrev pub damaged : List ℕ → List ℕ
+abbrev damaged : List ℕ → List ℕ
 damaged T = set T 1 0
 
 abbrev pub joinRows : List JoinRow

@@ -1,4 +1,4 @@
--- Orders of contacts and of pairs, sorted lists, and lists without repeats.
+-- Orders of contacts and of pairs, sorted lists, contacts listed in log order and their number, and lists without repeats.
 use Prim.Native.Nat.{ℕ, _+_, _<_}
 use mathlib.Core.Path.{_≡_}
 use mathlib.Core.Logic.{_↔_, _⊎_}

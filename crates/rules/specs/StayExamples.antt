@@ -3,6 +3,7 @@ use Prim.Native.Nat.{ℕ, _+_}
 use mathlib.Core.Path.{_≡_}
 use mathlib.Core.Bool.{cond, _&&_}
 use mathlib.Core.List.{List, [], _∷_, _++_, List·Memᴰ}
+use lib.ListN.{set}
 use lib.Dec.{eqb}
 use Rattle.journeys.specs.Journey.{interval}
 use Rattle.journeys.specs.Cell.{Cell}
@@ -12,7 +13,6 @@ use Rattle.rules.specs.declared.StaysAnswer.the-variants.{Added, Refused
 use Rattle.rules.specs.Layout.{tableWords}
 use Rattle.rules.specs.Opening.{noIntervals}
 use Rattle.rules.specs.Stays.{staysAnswer, staysLeaves}
-use Rattle.rules.specs.JoinExamples.{damaged}
 
 -- What a list of stays gives: the answer, and the table's words.
 pub record StaysGiven : Type 0 where
@@ -40,8 +40,8 @@ abbrev none : List ℕ
 none = pair [] []
 
 -- The table over (0, 1, 2) and (1, 0, 2).
-abbrev met : List ℕ
-met = pair (interval 2 3 ∷ []) (interval 2 3 ∷ [])
+abbrev together : List ℕ
+together = pair (interval 2 3 ∷ []) (interval 2 3 ∷ [])
 
 -- The table of three animals over (0, 1, 1), (1, 0, 1), (1, 2, 2) and (2, 1, 2).
 abbrev three : List ℕ
@@ -55,9 +55,9 @@ sharing = 0 ∷ 63 ∷ 1 ∷ 2 ∷ 1 ∷ 63 ∷ 2 ∷ 3 ∷ []
 
 abbrev pub staysRows : List StaysRow
 staysRows =
-    -- Two stays that share one tick, where one ends and the other begins; their order.
-    gives none sharing (Added 2) met
-    ∷ gives none (1 ∷ 63 ∷ 2 ∷ 3 ∷ 0 ∷ 63 ∷ 1 ∷ 2 ∷ []) (Added 2) met
+    -- Two stays that share one tick, where one ends and the other begins; the same in the other order.
+    gives none sharing (Added 2) together
+    ∷ gives none (1 ∷ 63 ∷ 2 ∷ 3 ∷ 0 ∷ 63 ∷ 1 ∷ 2 ∷ []) (Added 2) together
     -- Three animals: who met the second can have reached the third.
     ∷ gives (tableWords 3 3 1 noIntervals) (0 ∷ 7 ∷ 1 ∷ 1 ∷ 1 ∷ 7 ∷ 1 ∷ 2 ∷ 2 ∷ 7 ∷ 2 ∷ 2 ∷ []) (Added 4) three
     -- Other pens; one tick after the other; one animal alone, in one pen and in two.
@@ -65,16 +65,16 @@ staysRows =
     ∷ gives none (0 ∷ 0 ∷ 1 ∷ 1 ∷ 1 ∷ 0 ∷ 2 ∷ 2 ∷ []) (Added 0) none
     ∷ gives none (0 ∷ 0 ∷ 1 ∷ 2 ∷ 0 ∷ 0 ∷ 2 ∷ 3 ∷ 0 ∷ 1 ∷ 2 ∷ 2 ∷ []) (Added 0) none
     -- In two pens at once; together in both, and told twice.
-    ∷ gives none (0 ∷ 62 ∷ 1 ∷ 3 ∷ 0 ∷ 63 ∷ 2 ∷ 2 ∷ 1 ∷ 63 ∷ 1 ∷ 3 ∷ []) (Added 2) met
-    ∷ gives none (0 ∷ 62 ∷ 2 ∷ 2 ∷ 0 ∷ 63 ∷ 2 ∷ 2 ∷ 1 ∷ 62 ∷ 2 ∷ 2 ∷ 1 ∷ 63 ∷ 2 ∷ 2 ∷ 1 ∷ 63 ∷ 1 ∷ 2 ∷ []) (Added 2) met
+    ∷ gives none (0 ∷ 62 ∷ 1 ∷ 3 ∷ 0 ∷ 63 ∷ 2 ∷ 2 ∷ 1 ∷ 63 ∷ 1 ∷ 3 ∷ []) (Added 2) together
+    ∷ gives none (0 ∷ 62 ∷ 2 ∷ 2 ∷ 0 ∷ 63 ∷ 2 ∷ 2 ∷ 1 ∷ 62 ∷ 2 ∷ 2 ∷ 1 ∷ 63 ∷ 2 ∷ 2 ∷ 1 ∷ 63 ∷ 1 ∷ 2 ∷ []) (Added 2) together
     -- One contact known, and one new; both known.
-    ∷ gives (pair (interval 2 3 ∷ []) []) sharing (Added 1) met
-    ∷ gives met sharing (Added 0) met
+    ∷ gives (pair (interval 2 3 ∷ []) []) sharing (Added 1) together
+    ∷ gives together sharing (Added 0) together
     -- A table that no adds built: the longer interval goes.
-    ∷ gives (pair (interval 1 4 ∷ []) []) sharing (Added 2) met
+    ∷ gives (pair (interval 1 4 ∷ []) []) sharing (Added 2) together
     -- No record, and one.
-    ∷ gives met [] (Added 0) met
-    ∷ gives met (0 ∷ 0 ∷ 1 ∷ 3 ∷ []) (Added 0) met
+    ∷ gives together [] (Added 0) together
+    ∷ gives together (0 ∷ 0 ∷ 1 ∷ 3 ∷ []) (Added 0) together
     -- 18: animal 2, pen 64, ticks 0 and 4, first after last, each behind records that are stays; incomplete records.
     ∷ gives none (sharing ++ (2 ∷ 0 ∷ 1 ∷ 1 ∷ [])) (Refused IllegalStay) none
     ∷ gives none (sharing ++ (0 ∷ 64 ∷ 1 ∷ 1 ∷ [])) (Refused IllegalStay) none
@@ -88,7 +88,7 @@ staysRows =
     ∷ gives none (2 ∷ 0 ∷ 1 ∷ 1 ∷ sharing) (Refused IllegalStay) none
     -- 5 and 6 before it.
     ∷ gives [] (0 ∷ []) (Refused NotOpen) []
-    ∷ gives (damaged none) (0 ∷ []) (Refused NotWellFormed) (damaged none)
+    ∷ gives (set none 1 0) (0 ∷ []) (Refused NotWellFormed) (set none 1 0)
     ∷ []
 
 -- Every list of stays gives what its row says.

@@ -1,8 +1,8 @@
--- What document 02, Four, promises of a list of stays, with its sentences above the parts.
+-- What document 02, Four, promises of a list of stays; above each part stands what it says. That nothing is added on a refusal is of demand 1.
 use mathlib.Core.Path.{_≡_}
 use mathlib.Core.Logic.{_↔_, _⊎_, _≢_}
 use mathlib.Core.Option.{none, some}
-use mathlib.Core.List.{List, [], List·Memᴰ}
+use mathlib.Core.List.{List, [], _∷_, _++_, List·Memᴰ}
 use Prim.Native.Nat.{ℕ, _%_, _≤_, _<_}
 use lib.ListN.{length}
 use Rattle.journeys.specs.Journey.{Contact, contact, Contacts, In, Union, Same}
@@ -19,18 +19,27 @@ use Rattle.rules.specs.Orders.{Sorted, Earlier, NumberOf}
 use Rattle.rules.specs.CallLists.{engine, run, newAdds}
 use Rattle.rules.specs.Stays.{staysOf, isWhole, stayContacts, staysAnswer, staysLeaves}
 
--- A stay of one of n animals in one of the pens, at ticks of 1 to τ.
+-- A stay of one of n animals in one of the pens, at ticks of 1 to τ, the first not after the last.
 pub record IsStay (n τ : ℕ) (s : Stay) : Type 0 where
   pub animal-below : s .animal < n
   pub pen-within : s .pen ≤ maxPen
-  pub from-one : 1 ≤ s .first
+  pub first-within : (1 ≤ s .first) × (s .first ≤ τ)
+  pub last-within : (1 ≤ s .last) × (s .last ≤ τ)
   pub in-order : s .first ≤ s .last
-  pub to-last : s .last ≤ τ
 
 -- The words are whole records, each of them such a stay.
 pub record AreStays (n τ : ℕ) (W : List ℕ) : Type 0 where
   pub whole : length W % 4 ≡ 0
   pub each : (s : Stay) → List·Memᴰ s (staysOf W) → IsStay n τ s
+
+-- The first record of the list that is no such stay.
+pub record FirstIllegal (n τ : ℕ) (l : List Stay) : Type 0 where
+  pub before : List Stay
+  pub illegal : Stay
+  pub behind : List Stay
+  pub split : l ≡ before ++ (illegal ∷ behind)
+  pub stays : (s : Stay) → List·Memᴰ s before → IsStay n τ s
+  pub no-stay : ¬ IsStay n τ illegal
 
 -- The animal was in the pen at tick t.
 pub record There (s : Stay) (t : ℕ) : Type 0 where
@@ -44,8 +53,8 @@ pub record Met (l : List Stay) (k : Contact) : Type 0 where
   pub other : Stay
   pub one-listed : List·Memᴰ one l
   pub other-listed : List·Memᴰ other l
-  pub from-one : one .animal ≡ k .from
-  pub to-other : other .animal ≡ k .to
+  pub from-is : one .animal ≡ k .from
+  pub to-is : other .animal ≡ k .to
   pub different : one .animal ≢ other .animal
   pub same-pen : one .pen ≡ other .pen
   pub one-there : There one (k .tick)
@@ -60,9 +69,10 @@ pub record StaysCount (T W : List ℕ) (P : Contacts) : Type 0 where
 pub record StayRule : Type 1 where
   -- 5 and 6 are judged before the records, whatever these are.
   pub table-judged : (T W : List ℕ) (r : Refusal) → ensureTable T none ≡ some r → staysAnswer T W ≡ Refused r
-  -- 18 is given behind them, exactly when some record is no stay of the table's animals and ticks or the last is incomplete; else the contacts
-  -- are added.
-  pub refused-exactly : (T W : List ℕ) → (staysAnswer T W ≡ Refused IllegalStay) ↔ (ValidTable T × (¬ AreStays (animals T) (ticks T) W))
+  -- 18 is given behind them, exactly when there is a first record in list order that is no stay of the table's animals and ticks, or the last
+  -- record is incomplete; else the contacts are added. Stays of one animal may overlap, in one pen or in two.
+  pub refused-exactly : (T W : List ℕ) → (staysAnswer T W ≡ Refused IllegalStay)
+      ↔ (ValidTable T × (FirstIllegal (animals T) (ticks T) (staysOf W) ⊎ (length W % 4 ≢ 0)))
   pub added-exactly : (T W : List ℕ) → ((m : ℕ) × (staysAnswer T W ≡ Added m)) ↔ (ValidTable T × AreStays (animals T) (ticks T) W)
   -- A contact is among those added exactly when two records say so; they are listed each once, in log order,
   pub contacts-exactly : (T W : List ℕ) → AreStays (animals T) (ticks T) W → Same (In (stayContacts T W)) (Met (staysOf W))

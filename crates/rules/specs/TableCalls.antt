@@ -41,7 +41,7 @@ module _ (n τ δ : ℕ) where
     pub opening : getD S 0 0 ≡ openingWord n τ δ
 
   -- The contacts that the call leaves where P was there before: an add puts a legal contact in, a join the contacts held by a table that can be
-  -- joined, stays the contacts of which two of them say so; a call that is refused leaves P.
+  -- joined, a list of stays the contacts that two of its records tell; a call that is refused leaves P.
   abbrev pub ContactsAfter : Contacts → TableCall → Contacts
   ContactsAfter P (adding k) c = P c ⊎ ((c ≡ k) × Legal n τ k)
   ContactsAfter P (joining S) c = P c ⊎ (List·Memᴰ c (heldContacts S) × Joinable S)

@@ -70,10 +70,6 @@ bits-share p q = (λ d. to d (lt-outcome p q) (lt-outcome q p), of)
     of : p ≡ q → bitAnd (2 ^ p) (2 ^ q) ≢ 0
     of e z = let s : 2 ^ p ≡ 0 = sym (and-self (2 ^ p)) ∙ ap (λ (i : ℕ). bitAnd (2 ^ p) (2 ^ i)) e ∙ z in omega (arith, pow-pos p)
 
--- No bit is shared with none.
-pub none-shared : (c : ℕ) → bitAnd 0 c ≡ 0
-none-shared c = and-zero-l c
-
 -- One shifted by a pen's number is its bit.
 pub shifted : (p : ℕ) → p ≤ maxPen → (1 * 2 ^ p) % 2 ^ 64 ≡ 2 ^ p
 shifted p h = shl-exact 1 p 64 (omega arith) (omega arith) ∙ one-mul (2 ^ p)

@@ -4,10 +4,10 @@ use mathlib.Core.Logic.{_≢_}
 use mathlib.Core.Bool.{Bool, cond}
 use mathlib.Core.Option.{none}
 use mathlib.Core.List.{List, [], _∷_}
-use Prim.Native.Nat.{ℕ, zero, suc, _+_, _/_, _<_}
+use Prim.Native.Nat.{ℕ, _+_, _/_, _<_}
 use native.Mathlib.Omega.{arith}
 use lib.ListN.{length, getD}
-use lib.Bits.{bitAnd}
+use lib.Bits.{bitAnd, and-zero-l}
 use borrow.Author.Tests.{eq-eqb, ne-eqb}
 use Rattle.journeys.specs.Journey.{Contact, contact}
 use Rattle.journeys.proofs.Tests.{Outcome, holds, fails, eq-outcome}
@@ -19,13 +19,12 @@ use Rattle.rules.specs.Orders.{listed, inLogOrder}
 use Rattle.rules.specs.CallLists.{engine, run, newAdds}
 use Rattle.rules.specs.Stays.{staysOf, met, stayContacts, staysRefusal}
 use Rattle.rules.specs.StayRule.{AreStays}
-use Rattle.rules.proofs.Folds.{flat-same}
+use Rattle.rules.proofs.Folds.{flat-same, flat-none}
 use Rattle.rules.proofs.Sound.{table-sizes}
 use Rattle.rules.proofs.Stays.{stays-iff, contacts-legal, contacts-few}
 use Rattle.adding_lists.specs.Contacts.{Addable}
 use Rattle.adding_lists.proofs.Adds.{added-as}
 use Rattle.stays.specs.Meetings.{PensBy, sharesPen, meeting, meetingsFrom, meetingsAt}
-use Rattle.stays.proofs.Bits.{none-shared}
 use Rattle.stays.proofs.Pens.{shares-met}
 
 -- ---- one contact
@@ -49,11 +48,6 @@ module _ (pens : List ℕ) (u v t : ℕ) where
 
 -- ---- the contacts of one animal
 
-flat-none : (f : ℕ → List Contact) (n : ℕ) → ((k : ℕ) → f k ≡ []) → flat f n ≡ []
-unfolding flat
-flat-none f zero h = refl
-flat-none f (suc n) h = rw (flat-none f n h, h n) refl
-
 -- An animal in no pen has none.
 pub penless-none : (pens : List ℕ) (n t u : ℕ) → getD pens u 0 ≡ 0 → meetingsFrom pens n t u ≡ []
 unfolding meetingsFrom
@@ -61,7 +55,7 @@ penless-none pens n t u e = flat-none (meeting pens t u) n (λ v. one v (eq-outc
   where
     one : (v : ℕ) {b : Bool} → Outcome (u ≡ v) (u ≢ v) b → meeting pens t u v ≡ []
     one v (holds q) = own-none pens u v t q
-    one v (fails d) = apart-none pens u v t d (ap (λ (x : ℕ). bitAnd x (getD pens v 0)) e ∙ none-shared (getD pens v 0))
+    one v (fails d) = apart-none pens u v t d (ap (λ (x : ℕ). bitAnd x (getD pens v 0)) e ∙ and-zero-l (getD pens v 0))
 
 -- ---- the contacts of one tick, and all
 
@@ -121,8 +115,8 @@ module _ (T W : List ℕ) (e : staysRefusal T W ≡ none) where
             record {
               animal-below = omega (arith, r .animal-below, z .n-high);
               pen-within = r .pen-within;
-              from-one = r .from-one;
+              first-within = (r .first-within .0, omega (arith, r .first-within .1, z .τ-high));
+              last-within = (r .last-within .0, omega (arith, r .last-within .1, z .τ-high));
               in-order = r .in-order;
-              to-last = omega (arith, r .to-last, z .τ-high);
             };
       }

@@ -8,18 +8,19 @@ use native.Mathlib.Omega.{arith}
 use lib.ListN.{length, getD, set, replicate, length-set, getD-replicate}
 use lib.Seq.{getD-set-same, getD-set-other}
 use lib.Dec.{eqb}
-use lib.Bits.{bitAnd, bitOr, or-zero-r, and-comm}
+use lib.Bits.{bitAnd, bitOr, and-zero-l, or-zero-r, and-comm}
 use borrow.Author.Tests.{le-leb, lt-leb, eq-eqb, ne-eqb}
-use Rattle.journeys.specs.Journey.{Contact, contact}
+use Rattle.journeys.specs.Journey.{Contact}
 use Rattle.journeys.proofs.Tests.{untrue, Outcome, holds, fails, lt-outcome, eq-outcome}
 use Rattle.rules.specs.declared.Stay.{Stay}
 use Rattle.rules.specs.Limits.{maxAnimals}
 use Rattle.rules.specs.Stays.{stayAt, staysOf, isThere, met}
 use Rattle.rules.specs.StayRule.{There, Met}
-use Rattle.rules.proofs.Folds.{both-iff, flat-member, member-flat}
-use Rattle.rules.proofs.Stays.{there-iff, differ-iff, met-iff}
+use Rattle.rules.proofs.Folds.{both-iff, tests-same, flat-member, member-flat}
+use Rattle.rules.proofs.Judged.{differ-iff}
+use Rattle.rules.proofs.Stays.{there-iff, met-iff}
 use Rattle.stays.specs.Meetings.{penBit, pensBy, PensBy, sharesPen}
-use Rattle.stays.proofs.Bits.{or-shares, bits-share, none-shared}
+use Rattle.stays.proofs.Bits.{or-shares, bits-share}
 
 -- ---- the bit of one record
 
@@ -56,13 +57,13 @@ module _ (W : List ℕ) (t : ℕ) where
       go : {b : Bool} → Outcome (k ≡ s .animal) (k ≢ s .animal) b → (d : Bool) → isThere s t ≡ d
           → (bitAnd (cond b (cond d (2 ^ (s .pen)) 0) 0) c ≢ 0) ↔ (Stayed k i × (bitAnd (2 ^ (s .pen)) c ≢ 0))
       go (holds e) true f = (λ h. (record { animal-is = sym e; there = there-iff s t .0 f }, h), λ h. h .1)
-      go (holds e) false f = (λ h. absurd (h (none-shared c)), λ h. absurd (untrue (sym f ∙ there-iff s t .1 (h .0 .there))))
-      go (fails n) d f = (λ h. absurd (h (none-shared c)), λ h. absurd (n (sym (h .0 .animal-is))))
+      go (holds e) false f = (λ h. absurd (h (and-zero-l c)), λ h. absurd (untrue (sym f ∙ there-iff s t .1 (h .0 .there))))
+      go (fails n) d f = (λ h. absurd (h (and-zero-l c)), λ h. absurd (n (sym (h .0 .animal-is))))
 
   -- The pens of animal k by the first m records share one with c exactly when one of these records has it.
   pens-iff : (k m c : ℕ) → (bitAnd (pensBy W t m k) c ≢ 0) ↔ ((i : ℕ) × (i < m) × Stayed k i × (bitAnd (2 ^ (stayAt W i .pen)) c ≢ 0))
   unfolding pensBy
-  pens-iff k zero c = (λ h. absurd (h (none-shared c)), λ h. absurd (omega (arith, h .1)))
+  pens-iff k zero c = (λ h. absurd (h (and-zero-l c)), λ h. absurd (omega (arith, h .1)))
   pens-iff k (suc m) c =
       let o = or-shares (pensBy W t m k) (cond (eqb k (stayAt W m .animal)) (penBit (stayAt W m) t) 0) c in
       let a = pens-iff k m c in (
@@ -95,7 +96,7 @@ module _ (W : List ℕ) (t : ℕ) where
 -- ---- the records, and the array of pens
 
 module _ (W : List ℕ) where
-  -- A record of the list is one of its places.
+  -- A record of the list stands at one of its places.
   listed-at : (s : Stay) → List·Memᴰ s (staysOf W) → (i : ℕ) × (i < length W / 4) × (s ≡ stayAt W i)
   unfolding staysOf
   listed-at s m = let r = member-flat (λ i. stayAt W i ∷ []) (length W / 4) m in (r .0, r .1, List·Memᴰ·eq-of-singleton (r .2))
@@ -112,14 +113,14 @@ module _ (W : List ℕ) where
       to m =
           let a = listed-at (m .one) (m .one-listed) in
           let b = listed-at (m .other) (m .other-listed) in (
-            λ e. m .different (m .from-one ∙ e ∙ sym (m .to-other)),
+            λ e. m .different (m .from-is ∙ e ∙ sym (m .to-is)),
             share-iff W (k .tick) (k .from) (k .to) (length W / 4) .1 (
               a .0,
               b .0,
               a .1,
               b .1,
-              record { animal-is = subst (λ s. s .animal ≡ k .from) (a .2) (m .from-one); there = subst (λ s. There s (k .tick)) (a .2) (m .one-there) },
-              record { animal-is = subst (λ s. s .animal ≡ k .to) (b .2) (m .to-other); there = subst (λ s. There s (k .tick)) (b .2) (m .other-there) },
+              record { animal-is = subst (λ s. s .animal ≡ k .from) (a .2) (m .from-is); there = subst (λ s. There s (k .tick)) (a .2) (m .one-there) },
+              record { animal-is = subst (λ s. s .animal ≡ k .to) (b .2) (m .to-is); there = subst (λ s. There s (k .tick)) (b .2) (m .other-there) },
               ap (λ s. s .pen) (sym (a .2)) ∙ m .same-pen ∙ ap (λ s. s .pen) (b .2),
             ),
           )
@@ -132,27 +133,20 @@ module _ (W : List ℕ) where
             other = stayAt W (r .1);
             one-listed = at-listed (r .0) (r .2);
             other-listed = at-listed (r .1) (r .3);
-            from-one = r .4 .animal-is;
-            to-other = r .5 .animal-is;
+            from-is = r .4 .animal-is;
+            to-is = r .5 .animal-is;
             different = λ e. d (sym (r .4 .animal-is) ∙ e ∙ r .5 .animal-is);
             same-pen = r .6;
             one-there = r .4 .there;
             other-there = r .5 .there;
           }
 
--- Two tests that pass in the same cases are the same.
-same-test : {P Q : Type 0} {a b : Bool} → (a ≡ true) ↔ P → (b ≡ true) ↔ Q → P ↔ Q → a ≡ b
-same-test {a = true} {b = true} p q e = refl
-same-test {a = true} {b = false} p q e = sym (q .1 (e .0 (p .0 refl)))
-same-test {a = false} {b = true} p q e = p .1 (e .1 (q .0 refl))
-same-test {a = false} {b = false} p q e = refl
-
 -- With the pens of the contact's tick, the test of the pens is the test of the records.
 pub shares-met : (W pens : List ℕ) (k : Contact) → PensBy W (k .tick) (length W / 4) pens → k .from < maxAnimals → k .to < maxAnimals → sharesPen pens k ≡ met (staysOf W) k
 unfolding sharesPen
 shares-met W pens k f h j =
     rw (f .marked (k .from) h, f .marked (k .to) j)
-    (same-test
+    (tests-same
     (both-iff (differ-iff (k .from) (k .to)) (differ-iff (bitAnd (pensBy W (k .tick) (length W / 4) (k .from)) (pensBy W (k .tick) (length W / 4) (k .to))) 0))
     (met-iff (staysOf W) k) (let i = told-iff W k in (i .1, i .0)))
 

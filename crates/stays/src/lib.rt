@@ -1,5 +1,5 @@
 // Adding the contacts of stays to a table, where both passed their checks. Tick by tick one pass over the records marks the
-// pens of each animal, and every two different animals that share a pen are added.
+// pens of each animal, and the contacts of every two different animals that share a pen are added.
 ghost use mathlib.Core.Path.{_≡_};
 ghost use mathlib.Core.Option.{none};
 ghost use Prim.Native.Nat.{_/_, _≤_, _<_};

@@ -52,7 +52,7 @@ pub fn join(first: &[u32], second: &[u32]) -> (Joined, Vec<u32>) {
     Known::by_words(first).join(first, &Known::by_words(second))
 }
 
-/// Adding the contacts of the stays in these words to the table of the first words.
+/// Adding the contacts of stays to a table, both given as words: the answer, and the table's words afterwards.
 pub fn stays(table: &[u32], stays: &[u32]) -> (StaysAdded, Vec<u32>) {
     Known::by_words(table).stays(table, stays)
 }

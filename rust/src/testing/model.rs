@@ -1,5 +1,5 @@
 //! The plain search over contacts: what a table over a set of contacts must hold and answer, without cells or an add rule;
-//! and the plain search over stays: which contacts they are.
+//! and the plain search over stays: which contacts they tell.
 
 use crate::testing::calls::accepted;
 use crate::testing::contents::Contents;
