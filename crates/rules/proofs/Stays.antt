@@ -3,8 +3,8 @@ use mathlib.Core.Path.{_≡_, refl, sym, ap, _∙_, subst}
 use mathlib.Core.Logic.{_↔_, _⊎_, inl, inr, ⊎-elim, _≢_}
 use mathlib.Core.Bool.{Bool, true, false, _&&_}
 use mathlib.Core.Option.{Option, none, some}
-use mathlib.Core.List.{List, [], _∷_, List·Memᴰ, List·Memᴰ·head, List·Memᴰ·tail, List·Memᴰ·cases-cons, List·Memᴰ·not-nil, Memᴰ·append-right}
-use Prim.Native.Nat.{ℕ, _+_, _%_, _<_}
+use mathlib.Core.List.{List, [], _∷_, _++_, List·Memᴰ, List·Memᴰ·head, List·Memᴰ·tail, List·Memᴰ·cases-cons, List·Memᴰ·not-nil, Memᴰ·append-right}
+use Prim.Native.Nat.{ℕ, zero, suc, _+_, _*_, _/_, _%_, _<_}
 use native.Mathlib.Omega.{arith}
 use lib.ListN.{length}
 use lib.Dec.{eqb}
@@ -25,9 +25,9 @@ use Rattle.rules.specs.Logs.{heldContacts}
 use Rattle.rules.specs.Fresh.{Fresh}
 use Rattle.rules.specs.Orders.{Sorted, Earlier}
 use Rattle.rules.specs.CallLists.{engine, run, newAdds, LegalOf}
-use Rattle.rules.specs.Stays.{staysOf, isWhole, isStay, ensureEach, ensureStays, staysRefusal, isThere, meet, met, stayContacts, staysAnswer, staysLeaves}
-use Rattle.rules.specs.StayRule.{IsStay, AreStays, FirstIllegal, There, Met, StaysCount, StayRule}
-use Rattle.rules.proofs.Folds.{both-iff, any-iff}
+use Rattle.rules.specs.Stays.{stayAt, staysOf, isWhole, isStay, ensureEach, ensureStays, staysRefusal, isThere, meet, met, stayContacts, staysAnswer, staysLeaves}
+use Rattle.rules.specs.StayRule.{IsStay, AreStays, FirstIllegal, stayWords, There, Met, StaysCount, StayRule}
+use Rattle.rules.proofs.Folds.{both-iff, any-iff, flat-same}
 use Rattle.rules.proofs.Judged.{none-some, ensure-iff, below-iff, most-iff, equal-iff, differ-iff, within-iff}
 use Rattle.rules.proofs.Asked.{valid-behind}
 use Rattle.rules.proofs.Groups.{none-is-not-some, table-group, behind-valid, refused-behind}
@@ -38,6 +38,60 @@ use Rattle.rules.proofs.Held.{pairs-few, fresh-held}
 use Rattle.rules.proofs.Runs.{run-union}
 use Rattle.rules.proofs.AnyOrder.{run-same, same-number, unless-valid, unless-length}
 use Rattle.rules.proofs.NewContacts.{number-same, list-held, list-new}
+
+-- ---- the records and their words
+
+-- The first of a list of single elements.
+flat-first : {A : Type 0} (g : ℕ → A) (m : ℕ) → flat (λ i. g i ∷ []) (suc m) ≡ g 0 ∷ flat (λ i. g (i + 1) ∷ []) m
+unfolding flat
+flat-first g zero = refl
+flat-first {A} g (suc m) =
+    ap (λ (l : List A). l ++ (g (suc m) ∷ [])) (flat-first g m)
+    ∙ ap (λ (k : ℕ). g 0 ∷ (flat (λ i. g (i + 1) ∷ []) m ++ (g k ∷ []))) (let e : suc m ≡ m + 1 = omega arith in e)
+
+module _ (a b c d : ℕ) (W : List ℕ) where
+  -- Four words more in front.
+  abbrev more : List ℕ
+  more = a ∷ b ∷ c ∷ d ∷ W
+
+  -- They are a record, and those behind it are the records of the other words.
+  at-next : (i : ℕ) → stayAt more (i + 1) ≡ stayAt W i
+  unfolding stayAt
+  at-next i =
+      let p : 4 * (i + 1) ≡ suc (suc (suc (suc (4 * i)))) = omega arith in
+      let q : 4 * (i + 1) + 1 ≡ suc (suc (suc (suc (4 * i + 1)))) = omega arith in
+      let r : 4 * (i + 1) + 2 ≡ suc (suc (suc (suc (4 * i + 2)))) = omega arith in
+      let s : 4 * (i + 1) + 3 ≡ suc (suc (suc (suc (4 * i + 3)))) = omega arith in
+      rw (q, r, s, p) refl
+
+  first-record : staysOf more ≡ record { animal = a; pen = b; first = c; last = d } ∷ staysOf W
+  unfolding staysOf stayAt
+  first-record =
+      ap (flat (λ i. stayAt more i ∷ [])) (let e : length more / 4 ≡ suc (length W / 4) = omega arith in e)
+      ∙ flat-first (stayAt more) (length W / 4)
+      ∙ ap (λ (l : List Stay). stayAt more 0 ∷ l) (flat-same _ _ (length W / 4) (λ i h. ap (λ (s : Stay). s ∷ []) (at-next i)))
+
+  still-whole : isWhole more ≡ isWhole W
+  still-whole = ap (λ (k : ℕ). eqb k 0) (let e : length more % 4 ≡ length W % 4 = omega arith in e)
+
+read-again : (l : List Stay) → (staysOf (stayWords l) ≡ l) × (isWhole (stayWords l) ≡ true)
+unfolding stayWords
+read-again [] = (unfold staysOf flat in refl, refl)
+read-again (s ∷ l) =
+    let r = read-again l in
+    let W = stayWords l in (
+      first-record (s .animal) (s .pen) (s .first) (s .last) W ∙ ap (λ (m : List Stay). s ∷ m) (r .0),
+      still-whole (s .animal) (s .pen) (s .first) (s .last) W ∙ r .1,
+    )
+
+words-again : (W : List ℕ) → isWhole W ≡ true → stayWords (staysOf W) ≡ W
+unfolding stayWords
+words-again [] e = unfold staysOf flat in refl
+words-again (a ∷ []) e = untrue e
+words-again (a ∷ b ∷ []) e = untrue e
+words-again (a ∷ b ∷ c ∷ []) e = untrue e
+words-again (a ∷ b ∷ c ∷ d ∷ W) e =
+    ap stayWords (first-record a b c d W) ∙ ap (λ (l : List ℕ). a ∷ b ∷ c ∷ d ∷ l) (words-again W (sym (still-whole a b c d W) ∙ e))
 
 -- ---- which contacts two records tell
 
@@ -397,6 +451,8 @@ no-stays T p =
 pub stay-rule : StayRule
 stay-rule =
     record {
+      read-again = read-again;
+      words-again = words-again;
       table-judged = table-judged;
       refused-exactly = refused-exactly;
       added-exactly = added-exactly;

@@ -1,6 +1,7 @@
 -- What document 02, Four, promises of a list of stays; above each part stands what it says. That nothing is added on a refusal is of demand 1.
 use mathlib.Core.Path.{_≡_}
 use mathlib.Core.Logic.{_↔_, _⊎_, _≢_}
+use mathlib.Core.Bool.{true}
 use mathlib.Core.Option.{none, some}
 use mathlib.Core.List.{List, [], _∷_, _++_, List·Memᴰ}
 use Prim.Native.Nat.{ℕ, _%_, _≤_, _<_}
@@ -41,6 +42,11 @@ pub record FirstIllegal (n τ : ℕ) (l : List Stay) : Type 0 where
   pub stays : (s : Stay) → List·Memᴰ s before → IsStay n τ s
   pub no-stay : ¬ IsStay n τ illegal
 
+-- A list of records as it is lent: four words to each.
+unfoldable pub stayWords : List Stay → List ℕ
+stayWords [] = []
+stayWords (s ∷ l) = s .animal ∷ s .pen ∷ s .first ∷ s .last ∷ stayWords l
+
 -- The animal was in the pen at tick t.
 pub record There (s : Stay) (t : ℕ) : Type 0 where
   pub from-first : s .first ≤ t
@@ -67,6 +73,9 @@ pub record StaysCount (T W : List ℕ) (P : Contacts) : Type 0 where
   pub number : NumberOf P new
 
 pub record StayRule : Type 1 where
+  -- Records lent as words are read as these records, and the words of whole records are those of the records read.
+  pub read-again : (l : List Stay) → (staysOf (stayWords l) ≡ l) × (isWhole (stayWords l) ≡ true)
+  pub words-again : (W : List ℕ) → isWhole W ≡ true → stayWords (staysOf W) ≡ W
   -- 5 and 6 are judged before the records, whatever these are.
   pub table-judged : (T W : List ℕ) (r : Refusal) → ensureTable T none ≡ some r → staysAnswer T W ≡ Refused r
   -- 18 is given behind them, exactly when there is a first record in list order that is no stay of the table's animals and ticks, or the last
