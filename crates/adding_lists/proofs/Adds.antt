@@ -146,12 +146,11 @@ module _ {all rest : List Contact} {T₀ T : List ℕ} {new : ℕ} (w : AddedSoF
 
 -- The lists before i are added to T₀.
 pub record AddedBelow (f : ℕ → List Contact) (m : ℕ) (T₀ T : List ℕ) (new i : ℕ) : Type 0 where
-  pub within : i ≤ m
   pub added : AddedSoFar (flat f m) (flatFrom f i (m - i)) T₀ T new
 
 -- At first none is.
 pub below-start : (f : ℕ → List Contact) (m : ℕ) (T : List ℕ) → AddedBelow f m T T 0 0
-below-start f m T = record { within = omega arith; added = added-start _ _ T (from-all f m) }
+below-start f m T = record { added = added-start _ _ T (from-all f m) }
 
 module _ {f : ℕ → List Contact} {m : ℕ} {T₀ T : List ℕ} {new i : ℕ} (w : AddedBelow f m T₀ T new i) where
   module _ (h : i < m) where
@@ -166,7 +165,7 @@ module _ {f : ℕ → List Contact} {m : ℕ} {T₀ T : List ℕ} {new i : ℕ} 
 
       -- It is added.
       pub below-turn : {U : List ℕ} → U ≡ run engine T (f i) → AddedBelow f m T₀ U (new + r) (i + 1)
-      below-turn e = record { within = omega arith; added = added-turn (w .added) _ _ (from-next f m i h) g e }
+      below-turn e = record { added = added-turn (w .added) _ _ (from-next f m i h) g e }
 
   -- The table keeps its length.
   pub below-kept : Addable T₀ (flat f m) → length T ≡ length T₀

@@ -52,7 +52,8 @@ pub record Demand1 : Type 0 where
       → countedTally t T k ≡ record { new = t .new; known = t .known; refused = t .refused + 1 }
   pub counted-full : (t : Tally) (T : List ℕ) (k : Contact) → (countedAnswer t T k ≡ AddRefused TallyFull) ↔ (fullTally ≤ t .new + t .known + t .refused)
   pub counted-full-kept : (t : Tally) (T : List ℕ) (k : Contact) → countedAnswer t T k ≡ AddRefused TallyFull → countedTally t T k ≡ t
-  -- The other questions only read; a join only reads its second table, and stays only their records; a refused question for the animals reached gives an empty set.
+  -- The other questions only read; a join only reads its second table, and stays only their records. A refused question for the animals
+  -- reached gives an empty set.
   pub reached-empty : (T : List ℕ) (u first last : ℕ) (r : Refusal) → reachedAnswer T u first last ≡ SetRefused r
       → (reachedWords T u first last ≡ replicate 8 0) × (reachedCount T u first last ≡ 0)
   -- The memory lent keeps its ends.
@@ -66,8 +67,8 @@ pub record Demand1 : Type 0 where
   pub list-length : (T : List ℕ) (l : List Question) → length (listLeaves T l) ≡ length l
   pub reached-length : (T : List ℕ) (u first last : ℕ) (B : List ℕ) → length (reachedLeaves T u first last B) ≡ length B
   pub chain-length : (T : List ℕ) (u v first last : ℕ) (B : List ℕ) → length (chainLeaves T u v first last B) ≡ length B
-  -- Opening, reading a log, and every add to a table that passes 5 and 6, counted or not, every join into one and every list of stays added to one leave a
-  -- table that passes them.
+  -- Opening, reading a log, and every add to a table that passes 5 and 6, counted or not, every join into one and every list of stays added to
+  -- one leave a table that passes them.
   pub open-valid : (n τ δ : ℕ) (T : List ℕ) → openAnswer n τ δ T ≡ Opened → ValidTable (openLeaves n τ δ T)
   pub read-valid : (L T : List ℕ) (k : ℕ) → readAnswer L T ≡ Read k → ValidTable (readLeaves L T)
   pub add-valid : (T : List ℕ) (k : Contact) → ValidTable T → ValidTable (addLeaves T k)

@@ -68,7 +68,7 @@ all-ticks : (T W : List ℕ) → stayContacts T W ≡ flat (contactsAt T W) (tic
 unfolding stayContacts inLogOrder contactsAt
 all-ticks T W = refl
 
--- With the pens of tick i + 1, the animals that share one are its contacts.
+-- With the pens of tick i + 1, the contacts of animals that share one are those of the tick.
 pub tick-meetings : (T W pens : List ℕ) (i : ℕ) {n : ℕ} → n ≡ animals T → PensBy W (i + 1) (length W / 4) pens → meetingsAt pens n (i + 1) ≡ contactsAt T W i
 unfolding contactsAt meetingsAt meetingsFrom meeting listed
 tick-meetings T W pens i e f =
@@ -85,8 +85,8 @@ tick-meetings T W pens i e f =
 
 module _ (T W : List ℕ) (e : staysRefusal T W ≡ none) where
   -- The table passes 5 and 6.
-  pub stays-valid : ValidTable T
-  stays-valid = stays-iff T W .0 e .0
+  pub table-valid : ValidTable T
+  table-valid = stays-iff T W .0 e .0
 
   module _ {m : ℕ} (f : m ≡ ticks T) where
     ticks-are : stayContacts T W ≡ flat (contactsAt T W) m

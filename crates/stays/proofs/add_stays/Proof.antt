@@ -10,7 +10,7 @@ use Rattle.rules.proofs.Sound.{opens-length, table-sizes}
 use Rattle.adding_lists.specs.Contacts.{Addable}
 use Rattle.adding_lists.proofs.Adds.{added-as, AddedBelow, below-start, below-addable, below-few, below-turn, below-kept, below-end}
 use Rattle.stays.specs.Meetings.{meetingsAt}
-use Rattle.stays.proofs.Meetings.{contactsAt, tick-meetings, stays-valid, contacts-addable, contacts-added, stays-within}
+use Rattle.stays.proofs.Meetings.{contactsAt, tick-meetings, table-valid, contacts-addable, contacts-added, stays-within}
 use Rattle.stays.proofs.add_stays.Statement.{statement}
 use Rattle.stays.proofs.add_stays.Tie as tie
 
@@ -35,7 +35,7 @@ marked c = c .before .before .before
 
 -- The table has a first word.
 long : (s : tie.Start Inv-loop μ-loop) → 1 ≤ length (s .args .table .now)
-long s = omega (arith, opens-length (s .args .table .now) (stays-valid _ _ (s .pre) .opens))
+long s = omega (arith, opens-length (s .args .table .now) (table-valid _ _ (s .pre) .opens))
 
 -- The contacts of all ticks can be added.
 addable : (l : tie.At-loop Inv-loop μ-loop) → let a = entry l .args in Addable (a .table .now) (flat (contactsAt (a .table .now) (a .stays .now)) (l .before .ticks-of .result))
