@@ -3,7 +3,7 @@
 use crate::exports::{herd_chain, herd_claimed};
 use crate::{Answer, Chain};
 
-/// Writes the contacts of one journey from `u` to `v` that fits the window from `first` to `last`.
+/// Writes the contacts of one journey from `u` to `v` that fits the window from `first` to `last`: all are at these ticks.
 ///
 /// Among these journeys it is one with the earliest arrival, then with the latest departure, and it goes by the
 /// lowest-numbered animals. The buffer needs n−1 words.
@@ -15,8 +15,8 @@ pub fn chain(table: &[u32], u: u32, v: u32, first: u32, last: u32, buffer: &mut 
     Chain::of(unsafe { herd_chain(table, words, u, v, first, last, buffer, room) })
 }
 
-/// Whether the words of `chain` are contacts that the table holds, one or more, and form a journey from `u` to `v` that
-/// fits the window from `first` to `last`.
+/// Whether the words of `chain` are contacts that the table holds, one or more, all at ticks from `first` to `last`, and
+/// form a journey from `u` to `v`.
 ///
 /// Words that are no contacts, or form no such journey, are answered no and not refused.
 #[inline]

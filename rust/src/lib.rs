@@ -8,9 +8,11 @@
 //!
 //! A contact leaves one animal at a tick and arrives at another when the carry time is over. A journey is a row of
 //! contacts, at least one, each leaving the animal that the one before it reached, no earlier than it got there. A window
-//! has a first and a last tick, and a journey fits it that leaves no earlier than the first and is there by the last. A
-//! table need not have been built by adds: as long as it is well formed, its intervals are taken for the journeys in every
-//! question but [`claimed`].
+//! is a first and a last tick, each from 1 to τ and the first not after the last. A journey fits it when every contact of
+//! it is at a tick from the first to the last; it may arrive after the last, by up to the carry time. A table need not have
+//! been built by adds: as long as it is well formed, its intervals are taken for the journeys in every question but
+//! [`claimed`], and an interval fits a window when it departs at the first tick or later and arrives no more than the carry
+//! time after the last.
 //!
 //! The [`Interval`] of a journey from one animal to another is its departure and its arrival. It is minimal when no
 //! other interval of such a journey lies inside it; [`earliest`] and [`latest`] answer with both ends of a minimal one.
@@ -45,16 +47,15 @@
 //! | all others | 6 | some cell of the table is not well formed |
 //! | those with animals | 7 | an animal is n or above |
 //! | those with two | 8 | both animals are the same |
-//! | those with ticks | 9 | a tick is out of range, or first is after last |
+//! | `add`, those with windows | 9 | a tick is not 1 to τ, or first is after last |
+//! | `earliest`, `latest` | 9 | the tick is not 1 to τ+δ, with δ the carry time |
 //! | `chain` | 10 | the buffer is shorter than n−1 words |
 //! | `write_log` | 15 | the buffer is shorter than the contacts held and 2 |
 //! | `join` | 17 | the two tables have different opening words |
 //! | `stays` | 18 | a record is no legal stay, or the last one is incomplete |
 //!
 //! `join` judges its first table by 5 and 6, and then its second one likewise. A stay is legal when its animal is below n,
-//! its pen is 0 to 63, its ticks are in range, and its first tick is not after its last.
-//!
-//! The tick of a contact and those of a stay are 1 to τ; every tick of a question is 1 to τ+δ, with δ the carry time.
+//! its pen is 0 to 63, its ticks are 1 to τ, and its first tick is not after its last.
 //!
 //! # A session
 //!
@@ -65,12 +66,14 @@
 //! assert_eq!(herd::open(&mut table, 4, 6, 1), Opened::Opened);
 //! assert_eq!(herd::add(&mut table, 1, 3, 4), Added::New(1));
 //! assert_eq!(herd::add(&mut table, 0, 1, 2), Added::New(2));
-//! assert_eq!(herd::reach(&table, 0, 3, 1, 5), Answer::Yes);
-//! assert_eq!(herd::reach(&table, 0, 3, 3, 7), Answer::No);
+//! assert_eq!(herd::reach(&table, 0, 3, 1, 4), Answer::Yes);
+//! assert_eq!(herd::reach(&table, 0, 3, 1, 3), Answer::No);
+//! assert_eq!(herd::reach(&table, 0, 3, 3, 6), Answer::No);
+//! assert_eq!(herd::reach(&table, 0, 3, 1, 7), Answer::Refused(9));
 //! let interval = Interval { departure: 2, arrival: 5 };
 //! assert_eq!(herd::earliest(&table, 0, 3, 2), Found::At(interval));
 //! let mut words = [0; 3];
-//! assert_eq!(herd::chain(&table, 0, 3, 1, 7, &mut words), Chain::Contacts(2));
+//! assert_eq!(herd::chain(&table, 0, 3, 1, 6, &mut words), Chain::Contacts(2));
 //! assert_eq!(words, [0x4000_0401, 0x4004_0C03, 0]);
 //!
 //! let mut other_yard = vec![0; 1 + 4 * 4 * 7];
@@ -78,15 +81,15 @@
 //! assert_eq!(herd::add(&mut other_yard, 0, 1, 2), Added::New(1));
 //! assert_eq!(herd::add(&mut other_yard, 3, 2, 6), Added::New(1));
 //! assert_eq!(herd::join(&mut table, &other_yard), Joined::New(1));
-//! assert_eq!(herd::reach(&table, 0, 2, 2, 7), Answer::Yes);
+//! assert_eq!(herd::reach(&table, 0, 2, 2, 6), Answer::Yes);
 //!
 //! let gate = [
 //!     Stay { animal: 2, pen: 63, first: 1, last: 3 },
 //!     Stay { animal: 0, pen: 63, first: 2, last: 5 },
 //! ];
 //! assert_eq!(herd::stays(&mut table, Stay::words(&gate)), StaysAdded::New(4));
-//! assert_eq!(herd::reach(&table, 2, 0, 3, 4), Answer::Yes);
-//! assert_eq!(herd::reach(&table, 2, 0, 4, 7), Answer::No);
+//! assert_eq!(herd::reach(&table, 2, 0, 3, 3), Answer::Yes);
+//! assert_eq!(herd::reach(&table, 2, 0, 4, 6), Answer::No);
 //! ```
 //!
 //! # Tests

@@ -3,7 +3,8 @@
 use crate::exports::{herd_connected, herd_earliest, herd_latest, herd_reach, herd_reached};
 use crate::{Answer, Found, Reached};
 
-/// Whether a journey from `u` to `v` fits the window from `first` to `last`: yes when one does, no when none does.
+/// Whether a journey from `u` to `v` fits the window from `first` to `last`: yes when one has all its contacts at these
+/// ticks, no when none has. It may arrive after `last`, by up to the carry time.
 #[inline]
 pub fn reach(table: &[u32], u: u32, v: u32, first: u32, last: u32) -> Answer {
     // SAFETY: pointer and length are those of one lent slice, and the engine is proved to stay inside.

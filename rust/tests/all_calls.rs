@@ -45,8 +45,9 @@ fn chains_up_to(suite: &Suite, longest: u32, times: u32) {
     }
 }
 
-/// Makes calls whose windows and ticks lie about the table's intervals, and compares: reach, earliest and latest for each
-/// interval where there are two animals and for about 400 in other tables that are not large, every call for about so many.
+/// Makes calls whose windows and ticks lie about the table's intervals, which depart at d, arrive at a and have their last
+/// contact at l, and compares: reach, earliest and latest for each interval where there are two animals and for about 400 in
+/// other tables that are not large, every call for about so many.
 fn compare_about(
     suite: &mut Suite,
     random: &mut Random,
@@ -55,7 +56,11 @@ fn compare_about(
     intervals: usize,
 ) {
     let large = lent.words.len() > 10_000;
-    let (n, end) = (lent.opening.animals, lent.opening.last_arrival());
+    let (n, ticks, end) = (
+        lent.opening.animals,
+        lent.opening.ticks,
+        lent.opening.last_arrival(),
+    );
     let rows: usize = cells.iter().map(Vec::len).sum();
     for (pair, cell) in cells.iter().enumerate() {
         let (u, v) = (pair as u32 / n, pair as u32 % n);
@@ -66,18 +71,21 @@ fn compare_about(
                 continue;
             }
             let (d, a) = (interval.departure, interval.arrival);
+            let l = a - lent.opening.carry;
             for (first, last) in [
+                (d, l),
+                (d + 1, l),
+                (d, l - 1),
+                (d - 1, l),
+                (d, l + 1),
+                (d, ticks),
+                (d + 1, ticks),
+                (1, l),
+                (1, l - 1),
+                (l, ticks),
+                (1, ticks),
                 (d, a),
-                (d + 1, a),
-                (d, a - 1),
-                (d - 1, a),
-                (d, a + 1),
                 (d, end),
-                (d + 1, end),
-                (1, a),
-                (1, a - 1),
-                (a, end),
-                (1, end),
             ] {
                 suite.compare(lent, &Call::Reach(u, v, first, last));
                 if all {
@@ -343,15 +351,22 @@ fn numbers_at_their_edges() {
         (2, 1, 256),
         (2, 1024, 256),
         (3, 6, 2),
+        (3, 9, 3),
+        (5, 8, 4),
+        (6, 8, 1),
         (7, 5, 1),
         (8, 20, 3),
         (33, 3, 1),
         (256, 2, 1),
     ] {
         let opening = Opening::new(animals, ticks, carry);
-        let lent = Lent::stored(opening, &cases::cells(&mut random, opening));
+        let mut cells = cases::cells(&mut random, opening);
+        for cell in &mut cells {
+            cell.retain(|_| random.once_in(3));
+        }
+        let lent = Lent::stored(opening, &cells);
         let asked_of = edges(&[animals]);
-        let tick_edges = edges(&[ticks, opening.last_arrival()]);
+        let tick_edges = edges(&[ticks, carry, opening.last_arrival()]);
         let every = lent.words.len() < 1_000;
         for &u in &asked_of {
             for &v in &asked_of {
@@ -466,13 +481,16 @@ fn refusals_come_in_order() {
         (u32::MAX, Some(9)),
     ];
     let windows = [
-        ((1, 6), None),
+        ((1, 4), None),
         ((1, 1), None),
-        ((0, 6), Some(9)),
+        ((4, 4), None),
+        ((0, 4), Some(9)),
+        ((1, 5), Some(9)),
+        ((1, 6), Some(9)),
         ((1, 7), Some(9)),
-        ((5, 4), Some(9)),
+        ((4, 3), Some(9)),
         ((0, 0), Some(9)),
-        ((7, 7), Some(9)),
+        ((5, 5), Some(9)),
         ((0, u32::MAX), Some(9)),
     ];
     for (words, table) in tables {

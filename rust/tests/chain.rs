@@ -6,7 +6,7 @@ use herd::testing::contents::Contents;
 use herd::testing::random::Random;
 use herd::testing::rule::Stored;
 use herd::testing::suite::{draws, Call, Export, Lent, Reply, Suite};
-use herd::testing::words::{self, Contact, Interval, Opening};
+use herd::testing::words::{self, Contact, Interval, Opening, Window};
 
 /// The chain of a pair in a window, with words of no meaning in a buffer of this length.
 fn chain(random: &mut Random, (u, v): (u32, u32), (first, last): (u32, u32), room: usize) -> Call {
@@ -14,7 +14,7 @@ fn chain(random: &mut Random, (u, v): (u32, u32), (first, last): (u32, u32), roo
 }
 
 /// The contacts of the chain that is known of a table.
-fn told(known: &Known, (u, v): (u32, u32), window: Interval) -> Option<Vec<Contact>> {
+fn told(known: &Known, (u, v): (u32, u32), window: Window) -> Option<Vec<Contact>> {
     let contents = known.contents().expect("a well-formed table");
     contents.chain(u, v, window)
 }
@@ -33,9 +33,9 @@ fn chains_through_every_animal() {
                 .collect();
             let lent = Lent::fresh(opening, path.iter().copied().collect());
             let pair = (way[0], way[animals as usize - 1]);
-            let window = (1, opening.last_arrival());
-            let widest = Interval::new(window.0, window.1);
-            assert_eq!(told(&lent.known, pair, widest), Some(path.clone()));
+            let window = (1, opening.ticks);
+            let whole = Window::whole(opening);
+            assert_eq!(told(&lent.known, pair, whole), Some(path.clone()));
             let right = path.len();
             for room in [right, right + 1, right + 7] {
                 let call = chain(&mut random, pair, window, room);
@@ -56,13 +56,13 @@ fn a_chain_of_255_contacts() {
         .map(|i| Contact::new(255 - i, 254 - i, 1 + i))
         .collect();
     let lent = Lent::fresh(opening, path.iter().copied().collect());
-    let found = told(&lent.known, (255, 0), Interval::new(1, 256));
+    let found = told(&lent.known, (255, 0), Window::new(1, 255));
     assert_eq!(found, Some(path.clone()));
     for (room, reply) in [(254, Reply::Refused(10)), (257, Reply::Chain(255))] {
-        let call = chain(&mut random, (255, 0), (1, 256), room);
+        let call = chain(&mut random, (255, 0), (1, 255), room);
         suite.require(&lent, &call, reply);
     }
-    let claimed = Call::Claimed(255, 0, 1, 256, words::contact_words(&path));
+    let claimed = Call::Claimed(255, 0, 1, 255, words::contact_words(&path));
     suite.require(&lent, &claimed, Reply::Yes);
 }
 
@@ -84,7 +84,7 @@ fn every_length_of_buffers() {
                 (_, true) => [Reply::Refused(10), Reply::Refused(10), Reply::Refused(9)],
                 (_, false) => [Reply::Chain(1), Reply::NoJourney, Reply::Refused(9)],
             };
-            let asked = [((0, far), (1, 3)), ((far, 0), (1, 3)), ((0, far), (0, 3))];
+            let asked = [((0, far), (1, 2)), ((far, 0), (1, 2)), ((0, far), (1, 3))];
             for ((pair, window), reply) in asked.into_iter().zip(replies) {
                 let call = chain(&mut random, pair, window, room);
                 suite.require(&lent, &call, reply);
@@ -112,7 +112,7 @@ fn chains_that_stick() {
         ((1, 4), (8, 9)),
     ];
     let way = words::contacts([(0, 2, 1), (2, 3, 3), (3, 1, 5), (1, 4, 8)]).to_vec();
-    let widest = Interval::new(1, 9);
+    let whole = Window::whole(opening);
     let mut stuck = [0; 8];
     let mut chains = 0;
     for left_out in 0..1u32 << rows.len() {
@@ -124,17 +124,17 @@ fn chains_that_stick() {
         }
         let lent = Lent::stored(opening, &cells);
         let room = 4 + random.below(3);
-        let call = chain(&mut random, (0, 4), (1, 9), room);
+        let call = chain(&mut random, (0, 4), (1, 8), room);
         suite.compare(&lent, &call);
-        chains += u32::from(told(&lent.known, (0, 4), widest).as_ref() == Some(&way));
-        note_stuck(&Stored::new(opening, cells), (0, 4), widest, &mut stuck);
+        chains += u32::from(told(&lent.known, (0, 4), whole).as_ref() == Some(&way));
+        note_stuck(&Stored::new(opening, cells), (0, 4), whole, &mut stuck);
     }
     assert!(stuck[..3].iter().all(|&n| n > 20), "{stuck:?}");
     assert!(chains > 0, "{chains}");
 }
 
 /// Counts the walk by its contacts where it begins and does not end.
-fn note_stuck(stored: &Stored, (u, v): (u32, u32), window: Interval, stuck: &mut [u32; 8]) {
+fn note_stuck(stored: &Stored, (u, v): (u32, u32), window: Window, stuck: &mut [u32; 8]) {
     let (walked, ends) = stored.walk(u, v, window);
     // No walk meets an animal twice, since an animal's cell to the goal has one row with the arrival kept.
     assert!(walked.len() < stored.opening().animals as usize);
@@ -159,7 +159,7 @@ fn arrivals_that_differ_stop_a_chain() {
                 } else {
                     Reply::NoJourney
                 };
-                let call = chain(&mut random, (0, 2), (1, 11), 3);
+                let call = chain(&mut random, (0, 2), (1, 10), 3);
                 suite.require(&Lent::stored(opening, &cells), &call, reply);
             }
         }
@@ -182,12 +182,12 @@ fn planted_chains_among_more_animals() {
             if u != goal && !random.once_in(4) {
                 v = goal;
             }
-            let last = opening.last_arrival() - random.between(0, 2);
+            let last = opening.ticks - random.between(0, 2);
             let first = random.between(1, 3);
             let buffer = draws::buffer(&mut random, animals as usize - 1);
             let call = Call::Chain(u, v, first, last, buffer);
             suite.compare(&lent, &call);
-            note_stuck(&stored, (u, v), Interval::new(first, last), &mut stuck);
+            note_stuck(&stored, (u, v), Window::new(first, last), &mut stuck);
         }
     }
     suite.at_least(100, &[Export::Chain], &[10]);

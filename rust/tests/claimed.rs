@@ -3,35 +3,32 @@
 use herd::testing::cases;
 use herd::testing::random::Random;
 use herd::testing::suite::{draws, Call, Export, Lent, Reply, Suite};
-use herd::testing::words::{self, Contact, Interval, Opening};
+use herd::testing::words::{self, Contact, Interval, Opening, Window};
 use std::collections::{BTreeMap, BTreeSet};
 
 /// A journey of contacts that a table holds, and the window that it just fits.
 struct Claim<'a> {
     lent: &'a Lent,
     journey: Vec<Contact>,
-    window: Interval,
+    window: Window,
 }
 
 impl<'a> Claim<'a> {
     /// A journey of the table between two different animals, where there is one.
     fn drawn(random: &mut Random, lent: &'a Lent, most: usize) -> Option<Claim<'a>> {
         let journey = lent.journey(random, most);
-        let window = words::journey(lent.opening.carry, &journey)?;
-        let claim = Claim {
+        let differ = journey.first()?.from != journey.last()?.to;
+        let window = Window::around(&journey);
+        differ.then_some(Claim {
             lent,
             journey,
             window,
-        };
-        (claim.ends().0 != claim.ends().1).then_some(claim)
+        })
     }
 
     /// The first and the last animal.
     fn ends(&self) -> (u32, u32) {
-        (
-            self.journey[0].from,
-            self.journey[self.journey.len() - 1].to,
-        )
+        words::ends(&self.journey)
     }
 
     /// The words of the chain.
@@ -40,8 +37,8 @@ impl<'a> Claim<'a> {
     }
 
     /// Claims the words for the pair and the window.
-    fn call(&self, (u, v): (u32, u32), window: Interval, chain: Vec<u32>) -> Call {
-        Call::Claimed(u, v, window.departure, window.arrival, chain)
+    fn call(&self, (u, v): (u32, u32), window: Window, chain: Vec<u32>) -> Call {
+        Call::Claimed(u, v, window.first, window.last, chain)
     }
 
     /// A place in the chain.
@@ -149,10 +146,10 @@ fn is_true(claim: &Claim, chain: &[u32]) -> bool {
     let contacts: Option<Vec<Contact>> = chain.iter().map(|&w| words::read_contact(w)).collect();
     contacts.is_some_and(|contacts| {
         let held: BTreeSet<&Contact> = claim.lent.held.iter().collect();
-        let interval = words::journey(claim.lent.opening.carry, &contacts);
-        interval.is_some_and(|interval| interval.fits(claim.window))
+        words::journey(claim.lent.opening.carry, &contacts).is_some()
             && contacts.iter().all(|contact| held.contains(contact))
-            && (contacts[0].from, contacts[contacts.len() - 1].to) == claim.ends()
+            && contacts.iter().all(|&contact| claim.window.has(contact))
+            && words::ends(&contacts) == claim.ends()
     })
 }
 
@@ -194,15 +191,26 @@ fn other_animals_and_narrower_windows_are_answered_no() {
             continue;
         };
         let (u, v) = claim.ends();
-        let (first, last) = (claim.window.departure, claim.window.arrival);
+        let Window { first, last } = claim.window;
+        let ticks = lent.opening.ticks;
         let mut ask = |pair, first, last, reply| {
-            let call = claim.call(pair, Interval::new(first, last), claim.words());
+            let call = claim.call(pair, Window::new(first, last), claim.words());
             suite.require(&lent, &call, reply);
         };
         ask((u, v), first, last, Reply::Yes);
-        ask((u, v), 1, lent.opening.last_arrival(), Reply::Yes);
-        ask((u, v), first + 1, last, Reply::No);
-        ask((u, v), first, last - 1, Reply::No);
+        ask((u, v), 1, ticks, Reply::Yes);
+        let narrower = match first < last {
+            true => Reply::No,
+            false => Reply::Refused(9),
+        };
+        ask((u, v), first + 1, last, narrower);
+        ask((u, v), first, last - 1, narrower);
+        if first < ticks {
+            ask((u, v), first + 1, ticks, Reply::No);
+        }
+        if last > 1 {
+            ask((u, v), 1, last - 1, Reply::No);
+        }
         ask((v, u), first, last, Reply::No);
         for other in (0..lent.opening.animals).filter(|&other| other != u && other != v) {
             ask((u, other), first, last, Reply::No);
@@ -254,7 +262,7 @@ fn chains_told_are_claimed_with_yes() {
             continue;
         }
         let (u, v) = cases::pair(&mut random, lent.opening);
-        let (first, last) = (1, lent.opening.last_arrival());
+        let (first, last) = (1, lent.opening.ticks);
         let mut buffer = vec![0; lent.opening.animals as usize];
         let told = herd::chain(&lent.words, u, v, first, last, &mut buffer);
         if let herd::Chain::Contacts(number) = told {
@@ -274,7 +282,7 @@ fn stored_intervals_that_no_contacts_make_are_no_chain() {
     let mut cells = vec![Vec::new(); opening.pairs()];
     cells[opening.pair(0, 2)].push(Interval::new(1, 4));
     let lent = Lent::stored(opening, &cells);
-    let (u, v, first, last) = (0, 2, 1, 7);
+    let (u, v, first, last) = (0, 2, 1, 6);
     suite.require(&lent, &Call::Reach(u, v, first, last), Reply::Yes);
     for tick in 1..=6 {
         let chain = vec![words::contact_word(Contact::new(0, 2, tick))];

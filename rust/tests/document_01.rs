@@ -1,11 +1,12 @@
-//! The session, the marked examples and the unmarked ones of document 01, in every loading order.
+//! The session, the marked examples and the unmarked ones of document 01, with the windows of document 02, in every
+//! loading order.
 
 use herd::testing::cases::orders;
 use herd::testing::compare::same_words;
 use herd::testing::model;
 use herd::testing::random::Random;
 use herd::testing::suite::{Call, Export, Lent, Reply, Suite};
-use herd::testing::words::{self, contacts, Contact, Interval, Opening};
+use herd::testing::words::{self, contacts, Contact, Interval, Opening, Window};
 use herd::{Added, Chain, Joined, Opened, Reached, Read, Written};
 
 /// The session's log.
@@ -63,11 +64,11 @@ fn words_of_the_session() {
         assert_eq!(buffer[..5], LOG);
         assert_eq!(buffer[5], 9);
         let mut buffer = [7; 5];
-        let chain = herd::chain(&table, 0, 3, 1, 7, &mut buffer);
+        let chain = herd::chain(&table, 0, 3, 1, 6, &mut buffer);
         assert_eq!(chain, Chain::Contacts(2));
         assert_eq!(buffer, [0x4000_0401, 0x4004_0C03, 7, 7, 7]);
         let mut set = [7; 9];
-        let reached = herd::reached(&table, 0, 1, 7, &mut set);
+        let reached = herd::reached(&table, 0, 1, 6, &mut set);
         assert_eq!(reached, Reached::Animals(2));
         assert_eq!(set, [0b1010, 0, 0, 0, 0, 0, 0, 0, 7]);
     }
@@ -102,22 +103,22 @@ fn marked_and_unmarked_answers_of_the_session() {
         |u, v, first, last, chain: &[u32]| Call::Claimed(u, v, first, last, chain.to_vec());
     let (p6, other) = ([LOG[2], LOG[3]], [LOG[1], LOG[3]]);
     let asked = [
-        ("P1", Call::Reach(0, 3, 1, 5), Reply::Yes),
-        ("P1", Call::Reach(0, 3, 2, 5), Reply::Yes),
-        ("P2", Call::Reach(0, 3, 1, 4), Reply::No),
-        ("P2", Call::Reach(0, 3, 3, 7), Reply::No),
-        ("P3", Call::Reach(3, 0, 1, 7), Reply::No),
+        ("P1", Call::Reach(0, 3, 1, 4), Reply::Yes),
+        ("P1", Call::Reach(0, 3, 2, 4), Reply::Yes),
+        ("P2", Call::Reach(0, 3, 1, 3), Reply::No),
+        ("P2", Call::Reach(0, 3, 3, 6), Reply::No),
+        ("P3", Call::Reach(3, 0, 1, 6), Reply::No),
         ("P4", Call::Earliest(0, 3, 2), at(2, 5)),
         ("P4", Call::Earliest(0, 3, 3), Reply::Nothing),
         ("P5", Call::Latest(0, 3, 5), at(2, 5)),
         ("P5", Call::Latest(0, 3, 4), Reply::Nothing),
-        ("P6", chain(0, 3, 1, 7, 3), Reply::Chain(2)),
-        ("whole window", Call::Reach(0, 3, 1, 7), Reply::Yes),
-        ("one tick more", Call::Reach(0, 3, 1, 8), Reply::Refused(9)),
-        ("from tick 0", Call::Reach(0, 3, 0, 5), Reply::Refused(9)),
-        ("last first", Call::Reach(0, 3, 5, 2), Reply::Refused(9)),
-        ("one animal", Call::Reach(3, 3, 1, 5), Reply::Refused(8)),
-        ("animal 4", Call::Reach(0, 4, 1, 5), Reply::Refused(7)),
+        ("P6", chain(0, 3, 1, 6, 3), Reply::Chain(2)),
+        ("whole window", Call::Reach(0, 3, 1, 6), Reply::Yes),
+        ("one tick more", Call::Reach(0, 3, 1, 7), Reply::Refused(9)),
+        ("from tick 0", Call::Reach(0, 3, 0, 4), Reply::Refused(9)),
+        ("last first", Call::Reach(0, 3, 4, 2), Reply::Refused(9)),
+        ("one animal", Call::Reach(3, 3, 1, 4), Reply::Refused(8)),
+        ("animal 4", Call::Reach(0, 4, 1, 4), Reply::Refused(7)),
         ("from 1", Call::Earliest(0, 3, 1), at(2, 5)),
         ("from 1", Call::Earliest(0, 1, 1), at(1, 2)),
         ("from 2", Call::Earliest(0, 1, 2), at(2, 3)),
@@ -132,28 +133,34 @@ fn marked_and_unmarked_answers_of_the_session() {
         ("by tick 1", Call::Latest(0, 1, 1), Reply::Nothing),
         ("one tick more", Call::Latest(0, 3, 8), Reply::Refused(9)),
         ("tick 0", Call::Latest(0, 3, 0), Reply::Refused(9)),
-        ("all", reached(0, 1, 7), Reply::Animals(2)),
-        ("from 3 on", reached(0, 3, 7), Reply::Animals(0)),
-        ("by 4", reached(0, 1, 4), Reply::Animals(1)),
-        ("animal 4", reached(4, 1, 7), Reply::Refused(7)),
-        ("tightest", chain(0, 3, 2, 5, 4), Reply::Chain(2)),
-        ("later", chain(0, 3, 3, 7, 5), Reply::NoJourney),
-        ("shorter", chain(0, 3, 1, 4, 9), Reply::NoJourney),
-        ("backward", chain(3, 0, 1, 7, 3), Reply::NoJourney),
-        ("first of two", chain(0, 1, 1, 7, 3), Reply::Chain(1)),
-        ("second of two", chain(0, 1, 2, 7, 3), Reply::Chain(1)),
-        ("short buffer", chain(0, 3, 1, 7, 2), Reply::Refused(10)),
-        ("no buffer", chain(0, 3, 1, 7, 0), Reply::Refused(10)),
-        ("one tick more", chain(0, 3, 1, 8, 3), Reply::Refused(9)),
-        ("P6 claimed", claimed(0, 3, 1, 7, &p6), Reply::Yes),
-        ("tightest", claimed(0, 3, 2, 5, &p6), Reply::Yes),
-        ("later", claimed(0, 3, 3, 7, &p6), Reply::No),
-        ("shorter", claimed(0, 3, 1, 4, &p6), Reply::No),
-        ("other way", claimed(0, 3, 1, 7, &other), Reply::Yes),
-        ("to 1", claimed(0, 1, 1, 7, &p6), Reply::No),
-        ("half", claimed(0, 3, 1, 7, &p6[..1]), Reply::No),
-        ("nothing", claimed(0, 3, 1, 7, &[]), Reply::No),
-        ("one tick more", claimed(0, 3, 1, 8, &p6), Reply::Refused(9)),
+        ("all", reached(0, 1, 6), Reply::Animals(2)),
+        ("from 3 on", reached(0, 3, 6), Reply::Animals(0)),
+        ("by 3", reached(0, 1, 3), Reply::Animals(1)),
+        ("animal 4", reached(4, 1, 6), Reply::Refused(7)),
+        ("one tick more", reached(0, 1, 7), Reply::Refused(9)),
+        ("all", Call::Connected(1, 6), Reply::No),
+        ("tightest", Call::Connected(2, 4), Reply::No),
+        ("last tick", Call::Connected(6, 6), Reply::No),
+        ("one tick more", Call::Connected(1, 7), Reply::Refused(9)),
+        ("tightest", chain(0, 3, 2, 4, 4), Reply::Chain(2)),
+        ("later", chain(0, 3, 3, 6, 5), Reply::NoJourney),
+        ("shorter", chain(0, 3, 1, 3, 9), Reply::NoJourney),
+        ("backward", chain(3, 0, 1, 6, 3), Reply::NoJourney),
+        ("first of two", chain(0, 1, 1, 6, 3), Reply::Chain(1)),
+        ("second of two", chain(0, 1, 2, 6, 3), Reply::Chain(1)),
+        ("short buffer", chain(0, 3, 1, 6, 2), Reply::Refused(10)),
+        ("no buffer", chain(0, 3, 1, 6, 0), Reply::Refused(10)),
+        ("one tick more", chain(0, 3, 1, 7, 3), Reply::Refused(9)),
+        ("and no buffer", chain(0, 3, 1, 7, 0), Reply::Refused(9)),
+        ("P6 claimed", claimed(0, 3, 1, 6, &p6), Reply::Yes),
+        ("tightest", claimed(0, 3, 2, 4, &p6), Reply::Yes),
+        ("later", claimed(0, 3, 3, 6, &p6), Reply::No),
+        ("shorter", claimed(0, 3, 1, 3, &p6), Reply::No),
+        ("other way", claimed(0, 3, 1, 6, &other), Reply::Yes),
+        ("to 1", claimed(0, 1, 1, 6, &p6), Reply::No),
+        ("half", claimed(0, 3, 1, 6, &p6[..1]), Reply::No),
+        ("nothing", claimed(0, 3, 1, 6, &[]), Reply::No),
+        ("one tick more", claimed(0, 3, 1, 7, &p6), Reply::Refused(9)),
     ];
     let mut random = Random::new(2);
     let mut suite = Suite::default();
@@ -161,9 +168,6 @@ fn marked_and_unmarked_answers_of_the_session() {
         let lent = Lent::built(&mut random, Opening::new(4, 6, 1), &order);
         for (_, call, reply) in &asked {
             suite.require(&lent, call, *reply);
-        }
-        for (first, last) in [(1, 7), (2, 5), (7, 7)] {
-            suite.require(&lent, &Call::Connected(first, last), Reply::No);
         }
     }
     let lent = Lent::built(&mut random, Opening::new(4, 6, 1), &session());
@@ -189,15 +193,16 @@ fn longer_carry_times() {
             let way = contacts([(0, 1, departure), (1, 3, 4)]);
             let cells = model::minimal_intervals(opening, &order.iter().copied().collect());
             assert_eq!(cells[opening.pair(0, 3)], [interval]);
-            let end = opening.last_arrival();
+            let Window { first, last } = Window::around(&way);
+            assert_eq!((first, last), (departure, arrival - carry));
             let (u, v) = (0, 3);
             for (first, last, fits) in [
-                (departure, arrival, true),
-                (1, end, true),
-                (departure, arrival - 1, false),
-                (1, arrival - 1, false),
-                (departure + 1, arrival, false),
-                (departure + 1, end, false),
+                (first, last, true),
+                (1, 6, true),
+                (first, last - 1, false),
+                (1, last - 1, false),
+                (first + 1, last, false),
+                (first + 1, 6, false),
             ] {
                 let (yes, number) = match fits {
                     true => (Reply::Yes, Reply::Chain(2)),
@@ -251,10 +256,10 @@ fn five_animals() {
             suite.require_rows(&lent, (u, v), &[interval]);
         }
         for (question, expected) in [
-            ((0, 4, 1, 7), &p9[..]),
-            ((0, 3, 1, 7), &by_two),
-            ((0, 4, 2, 7), &[]),
-            ((0, 4, 1, 6), &[]),
+            ((0, 4, 1, 6), &p9[..]),
+            ((0, 3, 1, 6), &by_two),
+            ((0, 4, 2, 6), &[]),
+            ((0, 4, 1, 5), &[]),
         ] {
             let (u, v, first, last) = question;
             let mut buffer = [7; 6];

@@ -332,15 +332,15 @@ fn tables_of_more_words_than_32_bits_count() {
     assert_eq!(herd::stays(&mut lent, &stays), StaysAdded::Refused(5));
     let written = herd::write_log(&lent, &mut buffer);
     assert_eq!(written, Written::Refused(5));
-    assert_eq!(herd::reach(&lent, 0, 1, 1, 7), Answer::Refused(5));
+    assert_eq!(herd::reach(&lent, 0, 1, 1, 6), Answer::Refused(5));
     assert_eq!(herd::earliest(&lent, 0, 1, 1), Found::Refused(5));
     assert_eq!(herd::latest(&lent, 0, 1, 7), Found::Refused(5));
-    assert_eq!(herd::connected(&lent, 1, 7), Answer::Refused(5));
-    let reached = herd::reached(&lent, 0, 1, 7, &mut buffer);
+    assert_eq!(herd::connected(&lent, 1, 6), Answer::Refused(5));
+    let reached = herd::reached(&lent, 0, 1, 6, &mut buffer);
     assert_eq!(reached, Reached::Refused(5));
-    let chain = herd::chain(&lent, 0, 1, 1, 7, &mut buffer);
+    let chain = herd::chain(&lent, 0, 1, 1, 6, &mut buffer);
     assert_eq!(chain, Chain::Refused(5));
-    let claimed = herd::claimed(&lent, 0, 1, 1, 7, &[0x4000_0400]);
+    let claimed = herd::claimed(&lent, 0, 1, 1, 6, &[0x4000_0400]);
     assert_eq!(claimed, Answer::Refused(5));
     same_words(&lent[..table.len()], &table, "vast");
     assert!(lent[table.len()..10_000].iter().all(|&word| word == 0));
@@ -354,10 +354,10 @@ fn more_words_beside_a_table_than_32_bits_count() {
     let table = words::table(opening, &cases::full_cells(opening));
     let log = words::log(opening, cases::legal_contacts(opening));
     let mut buffer = vast(&[]);
-    let chain = herd::chain(&table, 0, 1, 1, 7, &mut buffer);
+    let chain = herd::chain(&table, 0, 1, 1, 6, &mut buffer);
     assert_eq!(chain, Chain::Contacts(1));
     assert_eq!(buffer[..4], [0x4000_0400, 0, 0, 0]);
-    let reached = herd::reached(&table, 0, 1, 7, &mut buffer);
+    let reached = herd::reached(&table, 0, 1, 6, &mut buffer);
     assert_eq!(reached, Reached::Animals(3));
     assert_eq!(buffer[..9], [0b1110, 0, 0, 0, 0, 0, 0, 0, 0]);
     let written = herd::write_log(&table, &mut buffer);
@@ -366,9 +366,9 @@ fn more_words_beside_a_table_than_32_bits_count() {
     assert!(buffer[log.len()..1_000].iter().all(|&word| word == 0));
 
     let chain = vast(&[0x4000_0400]);
-    let claimed = herd::claimed(&table, 0, 1, 1, 7, &chain);
+    let claimed = herd::claimed(&table, 0, 1, 1, 6, &chain);
     assert_eq!(claimed, Answer::No);
-    let claimed = herd::claimed(&table, 0, 1, 1, 7, &chain[..1]);
+    let claimed = herd::claimed(&table, 0, 1, 1, 6, &chain[..1]);
     assert_eq!(claimed, Answer::Yes);
 
     let second = vast(&table);

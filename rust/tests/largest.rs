@@ -116,15 +116,18 @@ fn questions_with_a_few_contacts() {
     let table = &memory[..length];
     let way = words::contact_words(&listed[1..]);
     for ((u, v, first, last), reach, claimed) in [
-        ((3, 255, 1, 1025), Answer::Yes, Answer::Yes),
-        ((3, 255, 1, 1024), Answer::No, Answer::No),
-        ((3, 255, 2, 1280), Answer::No, Answer::No),
-        ((255, 0, 1024, 1280), Answer::Yes, Answer::No),
-        ((255, 0, 1025, 1280), Answer::No, Answer::No),
-        ((255, 254, 1, 1280), Answer::No, Answer::No),
-        ((255, 0, 1024, 1281), Answer::Refused(9), Answer::Refused(9)),
-        ((255, 255, 0, 1281), Answer::Refused(8), Answer::Refused(8)),
-        ((256, 256, 0, 1281), Answer::Refused(7), Answer::Refused(7)),
+        ((3, 255, 1, 769), Answer::Yes, Answer::Yes),
+        ((3, 255, 1, 768), Answer::No, Answer::No),
+        ((3, 255, 2, 1024), Answer::No, Answer::No),
+        ((255, 0, 1, 1024), Answer::Yes, Answer::No),
+        ((255, 0, 1024, 1024), Answer::Yes, Answer::No),
+        ((255, 0, 1, 1023), Answer::No, Answer::No),
+        ((255, 254, 1, 1024), Answer::No, Answer::No),
+        ((255, 0, 1024, 1025), Answer::Refused(9), Answer::Refused(9)),
+        ((255, 0, 1025, 1025), Answer::Refused(9), Answer::Refused(9)),
+        ((255, 0, 1024, 1280), Answer::Refused(9), Answer::Refused(9)),
+        ((255, 255, 0, 1025), Answer::Refused(8), Answer::Refused(8)),
+        ((256, 256, 0, 1025), Answer::Refused(7), Answer::Refused(7)),
     ] {
         let case = (u, v, first, last);
         let answer = herd::reach(table, u, v, first, last);
@@ -152,32 +155,37 @@ fn questions_with_a_few_contacts() {
         assert_eq!(herd::latest(table, u, v, tick), latest, "{case:?}");
     }
     let mut set = [7; 9];
-    let reached = herd::reached(table, 3, 1, 1280, &mut set);
+    let reached = herd::reached(table, 3, 1, 1024, &mut set);
     assert_eq!(reached, Reached::Animals(4));
     assert_eq!(set, [0x81, 0, 0, 0, 0, 0, 0, 0xC000_0000, 7]);
-    let reached = herd::reached(table, 256, 0, 1281, &mut set);
-    assert_eq!((reached, set[0]), (Reached::Refused(7), 0x81));
-    assert_eq!(herd::connected(table, 1, 1280), Answer::No);
-    assert_eq!(herd::connected(table, 1, 1281), Answer::Refused(9));
+    for (u, number) in [(256, 7), (255, 9)] {
+        let reached = herd::reached(table, u, 1, 1025, &mut set);
+        assert_eq!((reached, set[0]), (Reached::Refused(number), 0x81));
+    }
+    let reached = herd::reached(table, 255, 1, 1024, &mut set);
+    assert_eq!((reached, set[0]), (Reached::Animals(1), 1));
+    assert_eq!(herd::connected(table, 1, 1024), Answer::No);
+    assert_eq!(herd::connected(table, 1, 1025), Answer::Refused(9));
 
     let mut buffer = vec![7; 256];
     for ((u, v, first, last), room, answer) in [
-        ((3, 255, 1, 1280), 254, Chain::Refused(10)),
-        ((3, 255, 1, 1024), 255, Chain::NoJourney),
-        ((3, 255, 2, 1280), 255, Chain::NoJourney),
-        ((255, 254, 1, 1280), 256, Chain::NoJourney),
-        ((255, 0, 1024, 1281), 256, Chain::Refused(9)),
-        ((255, 255, 0, 1281), 256, Chain::Refused(8)),
-        ((256, 256, 0, 1281), 256, Chain::Refused(7)),
+        ((3, 255, 1, 1024), 254, Chain::Refused(10)),
+        ((3, 255, 1, 768), 255, Chain::NoJourney),
+        ((3, 255, 2, 1024), 255, Chain::NoJourney),
+        ((255, 254, 1, 1024), 256, Chain::NoJourney),
+        ((255, 0, 1024, 1025), 254, Chain::Refused(9)),
+        ((255, 0, 1024, 1280), 256, Chain::Refused(9)),
+        ((255, 255, 0, 1025), 256, Chain::Refused(8)),
+        ((256, 256, 0, 1025), 256, Chain::Refused(7)),
     ] {
         let found = herd::chain(table, u, v, first, last, &mut buffer[..room]);
         assert_eq!(found, answer, "{u} {v} {first} {last} {room}");
         assert!(buffer.iter().all(|&word| word == 7), "{u} {v} {first}");
     }
-    let found = herd::chain(table, 3, 255, 1, 1025, &mut buffer[..255]);
+    let found = herd::chain(table, 3, 255, 1, 769, &mut buffer[..255]);
     assert_eq!(found, Chain::Contacts(4));
     same_words(&buffer[..4], &way, "four contacts");
-    let found = herd::chain(table, 255, 0, 1024, 1280, &mut buffer);
+    let found = herd::chain(table, 255, 0, 1024, 1024, &mut buffer);
     assert_eq!(found, Chain::Contacts(1));
     assert_eq!(buffer[0], words::contact_word(listed[0]));
     same_words(&buffer[1..4], &way[1..], "three words stay");
@@ -398,16 +406,18 @@ fn every_legal_contact() {
     let list = words::stays([(255, 63, 1023, 1024), (254, 63, 1024, 1024)]);
     let added = herd::stays(&mut table, Stay::words(&list));
     assert_eq!(added, StaysAdded::New(0));
-    assert_eq!(herd::connected(&table, 1024, 1280), Answer::Yes);
-    assert_eq!(herd::connected(&table, 1024, 1279), Answer::No);
+    for tick in [1, 512, 1024] {
+        assert_eq!(herd::connected(&table, tick, tick), Answer::Yes);
+    }
+    assert_eq!(herd::connected(&table, 1024, 1025), Answer::Refused(9));
     let mut set = [0; 8];
-    let reached = herd::reached(&table, 77, 512, 768, &mut set);
+    let reached = herd::reached(&table, 77, 512, 512, &mut set);
     assert_eq!(reached, Reached::Animals(255));
     let mut all_but_77 = [u32::MAX; 8];
     all_but_77[77 / 32] ^= 1 << (77 % 32);
     assert_eq!(set, all_but_77);
-    let reached = herd::reached(&table, 77, 512, 767, &mut set);
-    assert_eq!((reached, set), (Reached::Animals(0), [0; 8]));
+    let reached = herd::reached(&table, 77, 512, 1025, &mut set);
+    assert_eq!((reached, set), (Reached::Refused(9), all_but_77));
     for (tick, earliest, latest) in [
         (1, at(1, 257), Found::Nothing),
         (256, at(256, 512), Found::Nothing),
@@ -421,9 +431,23 @@ fn every_legal_contact() {
         assert_eq!(herd::earliest(&table, 255, 254, tick), earliest, "{tick}");
         assert_eq!(herd::latest(&table, 0, 255, tick), latest, "{tick}");
     }
-    let chain = herd::chain(&table, 255, 0, 700, 956, &mut buffer);
+    let chain = herd::chain(&table, 255, 0, 700, 700, &mut buffer);
     assert_eq!(chain, Chain::Contacts(1));
     let way = words::contact_word(Contact::new(255, 0, 700));
     assert_eq!(buffer[0], way);
-    assert_eq!(herd::claimed(&table, 255, 0, 700, 956, &[way]), Answer::Yes);
+    assert_eq!(herd::claimed(&table, 255, 0, 700, 700, &[way]), Answer::Yes);
+
+    let rows = LARGEST.cell_start(77, 78) + 1;
+    table[rows - 1] = words::count_word(1023);
+    table.copy_within(rows + 512..rows + 1024, rows + 511);
+    table[rows + 1023] = 0;
+    for (first, last, number, connected) in [
+        (512, 512, 254, Answer::No),
+        (511, 512, 255, Answer::Yes),
+        (512, 513, 255, Answer::Yes),
+    ] {
+        let reached = herd::reached(&table, 77, first, last, &mut set);
+        assert_eq!(reached, Reached::Animals(number), "{first} {last}");
+        assert_eq!(herd::connected(&table, first, last), connected);
+    }
 }

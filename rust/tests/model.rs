@@ -3,11 +3,12 @@
 use herd::testing::calls::{self, Known};
 use herd::testing::cases;
 use herd::testing::contents::Contents;
+use herd::testing::listing::Listing;
 use herd::testing::model::{self, Contacts, Journeys};
 use herd::testing::random::Random;
 use herd::testing::rule::Stored;
 use herd::testing::suite::{draws, Export, Lent};
-use herd::testing::words::{self, Cells, Contact, Interval, Opening, Stay, LAST_PEN};
+use herd::testing::words::{self, Cells, Contact, Interval, Opening, Stay, Window, LAST_PEN};
 use herd::{Added, Joined, Read, StaysAdded};
 use std::collections::BTreeSet;
 use std::fmt::Debug;
@@ -71,30 +72,11 @@ fn five_animals_of_document_01() {
     assert_eq!(journeys.latest(0, 4, 7), Some(Interval::new(1, 7)));
 }
 
-/// Every journey that goes on with this contact: its interval is noted for its first and last animal.
-fn follow(
-    opening: Opening,
-    contacts: &Contacts,
-    first: Contact,
-    taken: Contact,
-    noted: &mut Cells,
-) {
-    let arrival = taken.tick + opening.carry;
-    noted[opening.pair(first.from, taken.to)].push(Interval::new(first.tick, arrival));
-    for &next in contacts {
-        if next.from == taken.to && next.tick >= arrival {
-            follow(opening, contacts, first, next, noted);
-        }
-    }
-}
-
 /// The intervals of every journey of each ordered pair, by listing every journey.
 fn listed(opening: Opening, contacts: &Contacts) -> Cells {
-    let mut noted = vec![Vec::new(); opening.pairs()];
-    for &first in contacts {
-        follow(opening, contacts, first, first, &mut noted);
-    }
-    noted
+    let listing = Listing::new(opening, contacts);
+    let pairs = cases::every_two(0, opening.animals - 1);
+    pairs.map(|(u, v)| listing.intervals(u, v)).collect()
 }
 
 /// Those of the intervals inside which no other one lies, by departure.
@@ -133,41 +115,75 @@ fn search_finds_what_listing_every_journey_finds() {
 }
 
 #[test]
+fn every_list_of_contacts_that_is_a_journey_is_listed() {
+    let mut random = Random::new(209);
+    let mut lengths = [0; 4];
+    for _ in 0..300 {
+        let carry = random.one_of(&[1, 1, 1, 2, 3]);
+        let opening = Opening::new(random.between(2, 4), random.between(2, 7), carry);
+        let contacts = cases::few_contacts(&mut random, opening, 7);
+        let contacts: Contacts = contacts.into_iter().collect();
+        let listing = Listing::new(opening, &contacts);
+        let mut rows: Vec<Vec<Contact>> = vec![Vec::new()];
+        let mut journeys = BTreeSet::new();
+        for length in lengths.iter_mut() {
+            let longer = |row: &Vec<Contact>| {
+                let row = row.clone();
+                let longer = move |&contact: &Contact| [&row[..], &[contact]].concat();
+                contacts.iter().map(longer)
+            };
+            rows = rows.iter().flat_map(longer).collect();
+            let is_journey = |row: &&Vec<Contact>| words::journey(opening.carry, row).is_some();
+            let found = rows.iter().filter(is_journey).cloned();
+            let before = journeys.len();
+            journeys.extend(found);
+            *length += journeys.len() - before;
+        }
+        let short = listing
+            .journeys()
+            .iter()
+            .filter(|journey| journey.len() <= 4);
+        let short: Vec<&Vec<Contact>> = short.collect();
+        let different: BTreeSet<Vec<Contact>> = short.iter().copied().cloned().collect();
+        assert_eq!(short.len(), different.len(), "{opening:?} {contacts:?}");
+        assert_eq!(different, journeys, "{opening:?} {contacts:?}");
+    }
+    assert!(lengths.iter().all(|&listed| listed > 20), "{lengths:?}");
+}
+
+#[test]
 fn answers_are_those_of_listing_every_journey() {
     let mut random = Random::new(203);
+    let (mut yes, mut no, mut chains) = (0, 0, 0);
     for _ in 0..1_000 {
-        let opening = Opening::new(
-            random.between(1, 4),
-            random.between(1, 5),
-            random.between(1, 7),
-        );
-        let contacts = cases::log_contacts(&mut random, opening, 9);
+        let carry = random.one_of(&[1, 1, 1, 2, 3, 7]);
+        let opening = Opening::new(random.between(1, 4), random.between(1, 7), carry);
+        let contacts = cases::few_contacts(&mut random, opening, 9);
         let contacts: Contacts = contacts.into_iter().collect();
-        let journeys = listed(opening, &contacts);
+        let listing = Listing::new(opening, &contacts);
         let found = Journeys::new(opening, contacts.clone());
-        let (n, end) = (opening.animals, opening.last_arrival());
-        for first in 1..=end {
-            for last in first..=end {
-                let (window, case) = (Interval::new(first, last), (opening, &contacts));
-                let mut pairs = 0;
-                for x in 0..n {
-                    let fits = |i: &Interval| first <= i.departure && i.arrival <= last;
-                    let reached: Vec<u32> = (0..n)
-                        .filter(|&y| y != x)
-                        .filter(|&y| journeys[opening.pair(x, y)].iter().any(fits))
-                        .collect();
-                    assert_eq!(found.reached(x, window), reached, "{case:?} {window:?}");
-                    for y in (0..n).filter(|&y| y != x) {
-                        let reaches = reached.contains(&y);
-                        assert_eq!(found.reaches(x, y, window), reaches, "{case:?} {window:?}");
-                    }
-                    pairs += reached.len();
+        let n = opening.animals;
+        for window in cases::windows(opening) {
+            let case = (opening, &contacts, window);
+            for x in 0..n {
+                let reached = listing.reached(x, window);
+                assert_eq!(found.reached(x, window), reached, "{case:?}");
+                for y in (0..n).filter(|&y| y != x) {
+                    let reaches = reached.contains(&y);
+                    assert_eq!(found.reaches(x, y, window), reaches, "{case:?}");
+                    let chain = found.chain(x, y, window);
+                    assert_eq!(chain.as_deref(), listing.chain(x, y, window), "{case:?}");
+                    (yes, no) = (yes + u32::from(reaches), no + u32::from(!reaches));
+                    chains += u32::from(chain.is_some_and(|chain| chain.len() > 1));
                 }
-                let all = pairs == (n * (n - 1)) as usize;
-                assert_eq!(found.connects(window), all, "{case:?} {window:?}");
             }
+            assert_eq!(found.connects(window), listing.connects(window), "{case:?}");
         }
     }
+    assert!(
+        yes > 10_000 && no > 10_000 && chains > 1_000,
+        "{yes} {no} {chains}"
+    );
 }
 
 /// Fails unless the interval told is the only minimal one that is asked for and than which none asked for is better, and
@@ -239,20 +255,18 @@ fn claimed_chains_are_those_of_listing_every_journey() {
         let contacts = cases::log_contacts(&mut random, opening, 6);
         let contacts: Contacts = contacts.into_iter().collect();
         let legal = cases::legal_contacts(opening);
+        let listing = Listing::new(opening, &contacts);
         let found = Journeys::new(opening, contacts.clone());
-        let window = Interval::new(random.between(1, 2), opening.last_arrival());
+        let windows = cases::windows(opening);
         for _ in 0..200 {
             let length = random.below(4);
             let claim: Vec<Contact> = (0..length).map(|_| random.one_of(&legal)).collect();
             let (u, v) = cases::pair(&mut random, opening);
-            let mut at = Some((u, window.departure));
-            for contact in &claim {
-                let leaves = |&(x, tick): &(u32, u32)| contact.from == x && contact.tick >= tick;
-                let taken = at.filter(leaves).filter(|_| contacts.contains(contact));
-                at = taken.map(|_| (contact.to, contact.tick + opening.carry));
-            }
-            let ends = at.is_some_and(|(x, tick)| x == v && tick <= window.arrival);
-            let expected = ends && !claim.is_empty();
+            let window = match random.once_in(2) {
+                true => Window::whole(opening),
+                false => random.one_of(&windows),
+            };
+            let expected = listing.spells(u, v, window, &claim);
             let spelled = found.spells(u, v, window, &words::contact_words(&claim));
             assert_eq!(spelled, expected, "{opening:?} {contacts:?} {claim:?}");
             (yes, no) = (yes + u32::from(spelled), no + u32::from(!spelled));
@@ -282,8 +296,8 @@ fn search_and_rule_answer_alike() {
         let journeys = Journeys::new(opening, contacts);
         for _ in 0..40 {
             let (u, v) = cases::pair(&mut random, opening);
-            let first = random.between(1, opening.last_arrival());
-            let window = Interval::new(first, random.between(first, opening.last_arrival()));
+            let first = random.between(1, opening.ticks);
+            let window = Window::new(first, random.between(first, opening.ticks));
             let chain = journeys.chain(u, v, window);
             assert_eq!(chain.is_some(), journeys.reaches(u, v, window));
             if let Some(chain) = chain {
@@ -298,14 +312,14 @@ fn search_and_rule_answer_alike() {
 
 /// Fails unless the contacts form a journey of the set between the pair, with the earliest arrival in the window and the
 /// latest departure to it, of at most n−1 contacts.
-fn is_the_chain(journeys: &Journeys, chain: &[Contact], (u, v): (u32, u32), window: Interval) {
+fn is_the_chain(journeys: &Journeys, chain: &[Contact], (u, v): (u32, u32), window: Window) {
     let opening = journeys.opening();
     let case = (opening, journeys.contacts(), chain, window);
-    assert!(chain.iter().all(|&c| journeys.holds(c)), "{case:?}");
+    let is_held_inside = |&c: &Contact| journeys.holds(c) && window.has(c);
+    assert!(chain.iter().all(is_held_inside), "{case:?}");
     let taken = words::journey(opening.carry, chain).unwrap_or_else(|| panic!("{case:?}"));
-    let ends = (chain[0].from, chain[chain.len() - 1].to);
-    assert_eq!((ends, taken.fits(window)), ((u, v), true), "{case:?}");
-    let earliest = journeys.earliest(u, v, window.departure);
+    assert_eq!(words::ends(chain), (u, v), "{case:?}");
+    let earliest = journeys.earliest(u, v, window.first);
     assert_eq!(earliest, Some(taken), "{case:?}");
     let latest = journeys.latest(u, v, taken.arrival);
     assert_eq!(latest, Some(taken), "{case:?}");

@@ -16,13 +16,19 @@ fn answered(so: bool) -> Reply {
 }
 
 #[test]
-fn windows_and_ticks_at_the_edges_of_full_tables() {
+fn windows_and_ticks_at_the_edges_of_full_tables_and_of_every_second_and_third_contact() {
     let mut suite = Suite::default();
-    for (ticks, carry) in [(1, 1), (1, 256), (5, 1), (6, 9), (12, 3), (300, 256)] {
+    let numbers = [(1, 1), (1, 256), (5, 1), (6, 9), (12, 3), (300, 256)];
+    for ((ticks, carry), step) in numbers.into_iter().flat_map(|n| [1, 2, 3].map(|s| (n, s))) {
         let opening = Opening::new(2, ticks, carry);
         let end = opening.last_arrival();
-        let lent = Lent::stored(opening, &cases::full_cells(opening));
+        let mut cells = cases::full_cells(opening);
+        for cell in &mut cells {
+            cell.retain(|interval| interval.departure % step == 0);
+        }
+        let lent = Lent::stored(opening, &cells);
         let (u, v) = (1, 0);
+        let has = |first, last| answered(last / step * step >= first);
         let mut ask = |first, last, reply: Reply| {
             suite.require(&lent, &Call::Reach(u, v, first, last), reply);
             suite.require(&lent, &Call::Connected(first, last), reply);
@@ -35,22 +41,30 @@ fn windows_and_ticks_at_the_edges_of_full_tables() {
             let call = Call::Reached(u, first, last, set);
             suite.require(&lent, &call, animals);
         };
-        for tick in 1..=end {
-            ask(tick, tick, Reply::No);
-            ask(tick, end, answered(tick <= ticks));
-            ask(1, tick, answered(tick > carry));
+        for tick in 1..=ticks {
+            for (first, last) in [
+                (tick, tick),
+                (tick, (tick + 1).min(ticks)),
+                (tick, ticks),
+                (1, tick),
+            ] {
+                ask(first, last, has(first, last));
+            }
             ask(0, tick, Reply::Refused(9));
-            ask(tick, end + 1, Reply::Refused(9));
             ask(tick, tick - 1, Reply::Refused(9));
         }
-        for tick in 1..=ticks {
-            ask(tick, tick + carry, Reply::Yes);
-            ask(tick, tick + carry - 1, Reply::No);
+        for tick in ticks + 1..=end + 1 {
+            ask(1, tick, Reply::Refused(9));
+            ask(ticks, tick, Reply::Refused(9));
+            ask(tick, tick, Reply::Refused(9));
+            ask(tick, end, Reply::Refused(9));
         }
-        ask(end + 1, end + 1, Reply::Refused(9));
         for tick in 1..=end {
-            let earliest = (tick <= ticks).then(|| Interval::new(tick, tick + carry));
-            let latest = (tick > carry).then(|| Interval::new(tick - carry, tick));
+            let leaving = |departure| Interval::new(departure, departure + carry);
+            let next = tick.next_multiple_of(step);
+            let before = tick.saturating_sub(carry) / step * step;
+            let earliest = (next <= ticks).then(|| leaving(next));
+            let latest = (before >= 1).then(|| leaving(before));
             suite.require_at_tick(&lent, (u, v), tick, earliest, latest);
         }
         for tick in [0, end + 1, end + 2, u32::MAX] {
@@ -146,7 +160,7 @@ fn connected_misses_no_pair() {
     for (animals, carry) in [(2, 1), (3, 256), (8, 2), (33, 1)] {
         let opening = Opening::new(animals, 1, carry);
         let full = cases::full_cells(opening);
-        let window = Call::Connected(1, opening.last_arrival());
+        let window = Call::Connected(1, opening.ticks);
         suite.require(&Lent::stored(opening, &full), &window, Reply::Yes);
         for pair in 0..opening.pairs() {
             let is_one = pair % (animals as usize + 1) == 0;
@@ -170,8 +184,8 @@ fn a_ring_is_connected_in_time() {
             .flat_map(|t| (0..animals).map(move |u| Contact::new(u, (u + 1) % animals, t)))
             .collect();
         let lent = Lent::fresh(opening, ring);
-        for length in [1, animals - 2, animals - 1, animals, ticks] {
-            let (first, last) = (2, (2 + length).min(opening.last_arrival()));
+        for length in [1, (animals - 2).max(1), animals - 1, animals, ticks - 1] {
+            let (first, last) = (2, 1 + length);
             let reply = answered(length + 1 >= animals);
             suite.require(&lent, &Call::Connected(first, last), reply);
         }
@@ -201,7 +215,7 @@ fn sets_of_many_animals() {
                     let is_in = |b: &u32| met.contains(&(32 * j as u32 + b));
                     *word = (0..32).filter(is_in).map(|b| 1 << b).sum();
                 }
-                let (first, last) = (1, 3);
+                let (first, last) = (1, 1);
                 let mut lent_set = set.clone();
                 let reached = herd::reached(&lent.words, u, first, last, &mut lent_set);
                 assert_eq!(reached, herd::Reached::Animals(met.len() as u32));
@@ -223,7 +237,7 @@ fn stored_intervals_stand_for_the_journeys() {
     cells[opening.pair(0, 1)].push(Interval::new(2, 3));
     cells[opening.pair(1, 2)].push(Interval::new(4, 5));
     let lent = Lent::stored(opening, &cells);
-    let (u, v, first, last) = (0, 2, 1, 9);
+    let (u, v, first, last) = (0, 2, 1, 8);
     suite.require(&lent, &Call::Reach(u, v, first, last), Reply::Yes);
     let stored = Reply::At(Interval::new(2, 7));
     suite.require(&lent, &Call::Earliest(u, v, first), stored);

@@ -9,7 +9,7 @@ ghost use Rattle.words.specs.Layout.{get};
 ghost use Rattle.words.specs.Words.{rowsField, intervalOf};
 ghost use Rattle.rules.specs.Layout.{cellOf};
 ghost use Rattle.rules.specs.Adding.{stands};
-ghost use Rattle.rules.specs.Windows.{window, fitsWindow};
+ghost use Rattle.rules.specs.Windows.{widest, fitsWindow};
 ghost use Rattle.cells.specs.Stored.{RowsInUse, departureEnd, arrivalEnd, frontBelow, orZero};
 ghost use Rattle.cells.specs.Rows.{rowAt, firstDeparting, lastArriving};
 use rules::Ends;
@@ -147,22 +147,23 @@ pub fn stands(cell: &[u32], d: u32, a: u32) -> bool
     }
 }
 
-// Whether the interval [departure, arrival] fits the window from `first` to `last`.
-pub fn fits(departure: u32, arrival: u32, first: u32, last: u32) -> bool
-    ensures { λ r. ⌜ r ≡ fitsWindow (interval departure arrival) first last ⌝ }
+// Whether the interval [departure, arrival] fits the window from `first` to `last`: it may arrive up to the carry time after
+// `last`.
+pub fn fits(carry: u32, departure: u32, arrival: u32, first: u32, last: u32) -> bool
+    ensures { λ r. ⌜ r ≡ fitsWindow carry (interval departure arrival) first last ⌝ }
 {
-    first <= departure && arrival <= last
+    first <= departure && arrival as u64 <= last as u64 + carry as u64
 }
 
 // Whether an interval of the cell fits the window from `first` to `last`: if any does, the first that departs at or after
 // `first` does.
-pub fn has_fitting(cell: &[u32], first: u32, last: u32) -> bool
+pub fn has_fitting(cell: &[u32], carry: u32, first: u32, last: u32) -> bool
     requires { ⌜ RowsInUse (now cell) ⌝ }
-    ensures { λ r. ⌜ r ≡ hasInside (window first last) (cellOf (now (cell .entry))) ⌝ }
+    ensures { λ r. ⌜ r ≡ hasInside (widest carry first last) (cellOf (now (cell .entry))) ⌝ }
 {
     let found = first_departing(cell, first);
     match found {
-        RowFound::At(row) => fits(row.ends.departure, row.ends.arrival, first, last),
+        RowFound::At(row) => fits(carry, row.ends.departure, row.ends.arrival, first, last),
         RowFound::Nothing => false,
     }
 }

@@ -17,7 +17,7 @@ use Rattle.journeys.proofs.Tests.{never}
 use Rattle.words.specs.Words.{contactWord}
 use Rattle.rules.specs.Limits.{maxTicks}
 use Rattle.rules.specs.declared.ChainAnswer.the-variants.{Chain, NoJourney}
-use Rattle.rules.specs.Layout.{animals, cellsOf}
+use Rattle.rules.specs.Layout.{animals, carry, cellsOf}
 use Rattle.rules.specs.Checks.{ValidTable}
 use Rattle.rules.specs.Windows.{fitsWindow}
 use Rattle.rules.specs.Chains.{chainFrom, chainOf, chainRefusal, chainAnswerOf, chainAnswer, chainWords, chainLeaves}
@@ -89,16 +89,20 @@ module _ {T : List ℕ} {u v first : ℕ} {f : RowFound} (k : Kept T u v first f
     latest-is : latestDeparting (cellsOf T u v) (row .ends .arrival) ≡ some kept
     latest-is = latest-itself kept (cellsOf T u v) rises member
 
-    module _ {t : Bool} (w : t ≡ fitsWindow (interval (row .ends .departure) (row .ends .arrival)) first last) where
+    module _ {t : Bool} {δ : ℕ} (c : δ ≡ carry T) (w : t ≡ fitsWindow δ (interval (row .ends .departure) (row .ends .arrival)) first last) where
+      -- The test is made with the table's carry time.
+      tested : t ≡ fitsWindow (carry T) (interval (row .ends .departure) (row .ends .arrival)) first last
+      tested = w ∙ ap (λ (i : ℕ). fitsWindow i (interval (row .ends .departure) (row .ends .arrival)) first last) c
+
       -- The interval kept does not fit: no chain.
       pub none-fits : not t ≡ true → chainOf T u v first last ≡ none
       unfolding chainOf earliestArrival latestDeparture
-      none-fits h = rw (earliest-is q, latest-is, stopped w h) refl
+      none-fits h = rw (earliest-is q, latest-is, stopped tested h) refl
 
       -- Else it is the chain from u at its departure.
       pub departs : not t ≡ false → {o : Option (List ℕ)} → o ≡ wordsOf (chainFrom T v (row .ends .arrival) (animals T - 1) u (row .ends .departure)) → o ≡ wordsOf (chainOf T u v first last)
       unfolding chainOf earliestArrival latestDeparture
-      departs h e = rw (earliest-is q, latest-is, passed w h) e
+      departs h e = rw (earliest-is q, latest-is, passed tested h) e
 
     -- The departure is a tick of the table.
     pub departs-by : (1 ≤ row .ends .departure) × (row .ends .departure ≤ maxTicks)

@@ -38,7 +38,8 @@ fn find(table: &[u32], u: u32, v: u32, first: u32, last: u32) -> Steps
     let found = pair_cells::first_departing(table, u, v, first);
     match found {
         RowFound::At(row) => {
-            if !cells::fits(row.ends.departure, row.ends.arrival, first, last) {
+            let carry = words::carry_of(table[0]);
+            if !cells::fits(carry, row.ends.departure, row.ends.arrival, first, last) {
                 return steps::none();
             }
             steps::collect(table, v, row.ends.arrival, u, row.ends.departure)

@@ -90,13 +90,15 @@ pub fn judge_moment(table: &[u32], t: u32) -> Verdict
     ensure(tables::is_within(t, last), Refusal::TickOutOfRange)
 }
 
-// Whether both ticks of a window are 1 to τ+δ.
+// Whether both ticks of a window are 1 to τ.
 fn window_in_range(table: &[u32], first: u32, last: u32) -> bool
     ensures { λ r. ⌜ r ≡ windowInRange (now (table .entry)) first last ⌝ }
 {
-    let w = first_word(table);
-    let end = words::ticks_of(w) + words::carry_of(w);
-    both(tables::is_within(first, end), tables::is_within(last, end))
+    let ticks = words::ticks_of(first_word(table));
+    both(
+        tables::is_within(first, ticks),
+        tables::is_within(last, ticks),
+    )
 }
 
 // Check 9, of a window: both ticks in range, then the first not after the last.

@@ -9,15 +9,16 @@ use lib.Dec.{leb, ltb, eqb}
 use lib.ListN.{length, getD, drop, drop-of-length-le}
 use lib.Seq.{drop-cons}
 use borrow.Author.Tests.{le-leb, lt-leb, lt-ltb, le-ltb, eq-eqb, ne-eqb}
-use Rattle.journeys.specs.Journey.{interval, contact}
+use Rattle.journeys.specs.Journey.{contact}
 use Rattle.words.specs.Layout.{get, isOf}
 use Rattle.words.specs.Words.{contactLayout, fromField, toField, tickField, contactOf}
+use Rattle.rules.specs.Folds.{within}
 use Rattle.rules.specs.Layout.{animals, carry}
 use Rattle.rules.specs.Adding.{holds}
-use Rattle.rules.specs.Windows.{fitsWindow}
-use Rattle.rules.specs.Claims.{heldWord, leavesFrom, formJourney, lastWord, spells}
+use Rattle.rules.specs.Windows.{inWindow}
+use Rattle.rules.specs.Claims.{heldWord, leavesFrom, goesOn, formJourney}
 use Rattle.cell_checks.proofs.Checks.{stopped, passed}
-use Rattle.claims.specs.Following.{goesOn, follows}
+use Rattle.claims.specs.Following.{follows}
 
 -- ---- a word
 
@@ -57,44 +58,63 @@ module _ {T : List ℕ} {w n u v t : ℕ} (r : WordRead T w n u v t) {k : Bool} 
     unfolding heldWord
     held-is q s f = f ∙ rw (passed e h, from-test ∙ lt-ltb u n q, to-test ∙ lt-ltb v n s, r .from-read, r .to-read, r .tick-read) refl
 
-module _ (T : List ℕ) (w x a : ℕ) where
+module _ (w first last t : ℕ) (et : t ≡ get tickField w + 1) where
+  -- A contact at or after first lies in the window exactly when it comes no later than last.
+  pub window-from : first ≤ t → leb t last ≡ inWindow first last (contactOf w)
+  window-from h = ap (λ (b : Bool). b && leb t last) (sym (le-leb first t h)) ∙ ap (λ (i : ℕ). within first i last) et
+
+  -- One before first does not lie in it.
+  pub window-before : t < first → leb first t ≡ inWindow first last (contactOf w)
+  window-before h = lt-leb first t h ∙ ap (λ (b : Bool). b && leb t last) (sym (lt-leb first t h)) ∙ ap (λ (i : ℕ). within first i last) et
+
+module _ (T : List ℕ) (w first last x a : ℕ) where
   -- A word that leaves another animal than x does not go on.
-  pub goes-elsewhere : (u : ℕ) → u ≡ get fromField w → (u ≡ x → ⊥) → false ≡ goesOn T x a w
+  pub goes-elsewhere : (u : ℕ) → u ≡ get fromField w → (u ≡ x → ⊥) → false ≡ goesOn T first last x a w
   unfolding goesOn
   goes-elsewhere u eu h =
       let p : eqb (get fromField w) x ≡ false = ap (λ (i : ℕ). eqb i x) (sym eu) ∙ ne-eqb u x h in
-      rw (p, and-false (heldWord T w)) refl
+      rw (p, and-false (heldWord T w && inWindow first last (contactOf w))) refl
 
   -- Nor does one that leaves before a.
-  pub goes-early : (t : ℕ) → t ≡ get tickField w + 1 → t < a → false ≡ goesOn T x a w
+  pub goes-early : (t : ℕ) → t ≡ get tickField w + 1 → t < a → false ≡ goesOn T first last x a w
   unfolding goesOn
   goes-early t et h =
       let p : leb a (get tickField w + 1) ≡ false = ap (leb a) (sym et) ∙ lt-leb a t h in
-      rw (p, and-false (eqb (get fromField w) x), and-false (heldWord T w)) refl
+      rw (p, and-false (eqb (get fromField w) x), and-false (heldWord T w && inWindow first last (contactOf w))) refl
 
-  -- Any other goes on exactly when it is held.
-  pub goes-held : (u t : ℕ) → u ≡ get fromField w → t ≡ get tickField w + 1 → u ≡ x → a ≤ t → {b : Bool} → b ≡ heldWord T w → b ≡ goesOn T x a w
-  unfolding goesOn
-  goes-held u t eu et h k f =
-      let p : eqb (get fromField w) x ≡ true = ap (λ (i : ℕ). eqb i x) (sym eu) ∙ eq-eqb u x h in
-      let q : leb a (get tickField w + 1) ≡ true = ap (leb a) (sym et) ∙ le-leb a t k in
-      f ∙ rw (p, q) (sym (and-true (heldWord T w)))
+  module _ (u t : ℕ) (eu : u ≡ get fromField w) (et : t ≡ get tickField w + 1) (h : u ≡ x) (k : a ≤ t) {i : Bool} (e : i ≡ inWindow first last (contactOf w)) where
+    -- It leaves x in time.
+    leaves : leavesFrom x a (contactOf w) ≡ true
+    leaves =
+        let p : eqb (get fromField w) x ≡ true = ap (λ (i : ℕ). eqb i x) (sym eu) ∙ eq-eqb u x h in
+        let q : leb a (get tickField w + 1) ≡ true = ap (leb a) (sym et) ∙ le-leb a t k in
+        rw (p, q) refl
+
+    -- Nor does one that lies outside the window.
+    pub goes-outside : not i ≡ true → false ≡ goesOn T first last x a w
+    unfolding goesOn
+    goes-outside n = rw (stopped e n, and-false (heldWord T w)) refl
+
+    -- Any other goes on exactly when it is held.
+    pub goes-held : not i ≡ false → {b : Bool} → b ≡ heldWord T w → b ≡ goesOn T first last x a w
+    unfolding goesOn
+    goes-held n f = f ∙ rw (passed e n, leaves) (sym (and-true (heldWord T w && true) ∙ and-true (heldWord T w)))
 
 -- ---- a list of words
 
-module _ (T : List ℕ) (v x a : ℕ) (ws : List ℕ) (i : ℕ) {r : Bool} (left : follows T v x a (drop i ws) ≡ r) where
+module _ (T : List ℕ) (v first last x a : ℕ) (ws : List ℕ) (i : ℕ) {r : Bool} (left : follows T v first last x a (drop i ws) ≡ r) where
   -- A word that goes on is passed.
-  pub follows-turn : {b : Bool} (y t δ : ℕ) → i < length ws → b ≡ goesOn T x a (getD ws i 0) → not b ≡ false
+  pub follows-turn : {b : Bool} (y t δ : ℕ) → i < length ws → b ≡ goesOn T first last x a (getD ws i 0) → not b ≡ false
       → y ≡ get toField (getD ws i 0) → t ≡ get tickField (getD ws i 0) + 1 → δ ≡ carry T
-      → follows T v y (t + δ) (drop (i + 1) ws) ≡ r
+      → follows T v first last y (t + δ) (drop (i + 1) ws) ≡ r
   unfolding follows
   follows-turn y t δ h f n ey et eδ =
-      let e : goesOn T x a (getD ws i 0) ≡ true = passed f n in rw (add-one i, ey, et, eδ) (rw (drop-cons ws i 0 h, e) at left)
+      let e : goesOn T first last x a (getD ws i 0) ≡ true = passed f n in rw (add-one i, ey, et, eδ) (rw (drop-cons ws i 0 h, e) at left)
 
   -- Any other ends the test.
-  pub follows-stop : {b : Bool} → i < length ws → b ≡ goesOn T x a (getD ws i 0) → not b ≡ true → false ≡ r
+  pub follows-stop : {b : Bool} → i < length ws → b ≡ goesOn T first last x a (getD ws i 0) → not b ≡ true → false ≡ r
   unfolding follows
-  follows-stop h f n = let e : goesOn T x a (getD ws i 0) ≡ false = stopped f n in rw (drop-cons ws i 0 h, e) at left
+  follows-stop h f n = let e : goesOn T first last x a (getD ws i 0) ≡ false = stopped f n in rw (drop-cons ws i 0 h, e) at left
 
   -- Where no word is left, the animal is tested.
   pub follows-end : length ws ≤ i → eqb x v ≡ r
@@ -102,46 +122,20 @@ module _ (T : List ℕ) (v x a : ℕ) (ws : List ℕ) (i : ℕ) {r : Bool} (left
   follows-end h = rw (drop-of-length-le ws h) at left
 
 -- A list of words that is not empty forms a journey exactly when its words lead on to v.
-form-follows : (T : List ℕ) (v x a w : ℕ) (ws : List ℕ) → formJourney T v x a (w ∷ ws) ≡ follows T v x a (w ∷ ws)
-unfolding formJourney follows goesOn
-form-follows T v x a w [] = refl
-form-follows T v x a w (y ∷ ws) =
-    ap (λ (b : Bool). heldWord T w && leavesFrom x a (contactOf w) && b) (form-follows T v (contactOf w .to) (contactOf w .tick + carry T) y ws)
+form-follows : (T : List ℕ) (v first last x a w : ℕ) (ws : List ℕ) → follows T v first last x a (w ∷ ws) ≡ formJourney T v first last x a (w ∷ ws)
+unfolding formJourney follows
+form-follows T v first last x a w [] = refl
+form-follows T v first last x a w (y ∷ ws) =
+    ap (λ (b : Bool). goesOn T first last x a w && b) (form-follows T v first last (contactOf w .to) (contactOf w .tick + carry T) y ws)
 
--- The last word stands at the last index.
-last-is : (w : ℕ) (ws : List ℕ) → getD (w ∷ ws) (length ws) 0 ≡ lastWord (w ∷ ws)
-last-is w [] = refl
-last-is w (y ∷ ws) = last-is y ws
+module _ (T : List ℕ) (v first last x a : ℕ) where
+  -- No word forms no journey.
+  pub forms-none : (ws : List ℕ) → length ws ≡ 0 → false ≡ formJourney T v first last x a ws
+  unfolding formJourney
+  forms-none [] h = refl
+  forms-none (w ∷ ws) h = absurd (omega arith)
 
--- No word spells no journey.
-pub spells-none : (T : List ℕ) (u v first last : ℕ) (ws : List ℕ) → length ws ≡ 0 → false ≡ spells T u v first last ws
-unfolding spells formJourney
-spells-none T u v first last [] h = refl
-spells-none T u v first last (w ∷ ws) h = absurd (omega arith)
-
-module _ (T : List ℕ) (u v first last : ℕ) (ws : List ℕ) (n : length ws ≡ 0 → ⊥) {b : Bool} (f : b ≡ follows T v u 0 ws) where
-  -- Any other list forms a journey exactly when the loop lets it through.
-  forms-is : b ≡ formJourney T v u 0 ws
-  forms-is = f ∙ go ws n
-    where
-      go : (ws : List ℕ) → (length ws ≡ 0 → ⊥) → follows T v u 0 ws ≡ formJourney T v u 0 ws
-      go [] n = absurd (n refl)
-      go (w ∷ ws) n = sym (form-follows T v u 0 w ws)
-
-  -- Words that do not lead on spell nothing.
-  pub spells-stop : not b ≡ true → false ≡ spells T u v first last ws
-  unfolding spells
-  spells-stop h = rw (stopped forms-is h) refl
-
-  -- Words that do spell a journey exactly when its interval fits the window.
-  pub spells-fits : not b ≡ false → {d t δ : ℕ} {c : Bool} → d ≡ get tickField (getD ws 0 0) + 1 → t ≡ get tickField (getD ws (length ws - 1) 0) + 1 → δ ≡ carry T
-      → c ≡ fitsWindow (interval d (t + δ)) first last → c ≡ spells T u v first last ws
-  unfolding spells
-  spells-fits h {d} {t} {δ} {c} ed et eδ e =
-      e
-      ∙ ap₂ (λ (i j : ℕ). fitsWindow (interval i j) first last) ed (ap₂ _+_ (et ∙ ap (λ (w : ℕ). get tickField w + 1) (last-at ws n)) eδ)
-      ∙ rw (passed forms-is h) refl
-    where
-      last-at : (ws : List ℕ) → (length ws ≡ 0 → ⊥) → getD ws (length ws - 1) 0 ≡ lastWord ws
-      last-at [] n = absurd (n refl)
-      last-at (w ∷ ws) n = let q : length (w ∷ ws) - 1 ≡ length ws = omega arith in ap (λ (i : ℕ). getD (w ∷ ws) i 0) q ∙ last-is w ws
+  -- Any other list does exactly when the loop lets it through.
+  pub forms-some : (ws : List ℕ) → (length ws ≡ 0 → ⊥) → {b : Bool} → b ≡ follows T v first last x a ws → b ≡ formJourney T v first last x a ws
+  forms-some [] n f = absurd (n refl)
+  forms-some (w ∷ ws) n f = f ∙ form-follows T v first last x a w ws

@@ -2,12 +2,13 @@
 ghost use mathlib.Core.Path.{_≡_};
 ghost use Prim.Native.Nat.{_<_, _≤_};
 ghost use Rattle.journeys.specs.Journey.{contact};
+ghost use Rattle.words.specs.Words.{contactOf};
 ghost use Rattle.rules.specs.Limits.{maxTicks};
 ghost use Rattle.rules.specs.Layout.{animals};
 ghost use Rattle.rules.specs.Checks.{ValidTable};
 ghost use Rattle.rules.specs.Adding.{holds};
-ghost use Rattle.rules.specs.Claims.{heldWord};
-ghost use Rattle.claims.specs.Following.{goesOn};
+ghost use Rattle.rules.specs.Windows.{inWindow};
+ghost use Rattle.rules.specs.Claims.{heldWord, goesOn};
 
 // Whether the table holds the contact (u, v, t).
 fn holds(table: &[u32], u: u32, v: u32, t: u32) -> bool
@@ -40,15 +41,26 @@ fn held_word(table: &[u32], w: u32) -> bool
     holds(table, u, v, t)
 }
 
-// Whether the word's contact is held and leaves x at or after tick a.
-pub(crate) fn goes_on(table: &[u32], w: u32, x: u32, a: u32) -> bool
+// Whether the word's contact lies in the window from `first` to `last`.
+fn in_window(w: u32, first: u32, last: u32) -> bool
+    ensures { λ r. ⌜ r ≡ inWindow first last (contactOf w) ⌝ }
+{
+    let t = words::tick_of(w);
+    first <= t && t <= last
+}
+
+// Whether the word's contact is held, lies in the window and leaves x at or after tick a.
+pub(crate) fn goes_on(table: &[u32], w: u32, first: u32, last: u32, x: u32, a: u32) -> bool
     requires { ⌜ ValidTable (now table) ⌝ }
-    ensures { λ r. ⌜ r ≡ goesOn (now (table .entry)) x a w ⌝ }
+    ensures { λ r. ⌜ r ≡ goesOn (now (table .entry)) first last x a w ⌝ }
 {
     if words::from_of(w) != x {
         return false;
     }
     if words::tick_of(w) < a {
+        return false;
+    }
+    if !in_window(w, first, last) {
         return false;
     }
     held_word(table, w)

@@ -3,16 +3,16 @@ mod held;
 
 ghost use mathlib.Core.Path.{_≡_};
 ghost use Rattle.rules.specs.Checks.{ValidTable};
-ghost use Rattle.rules.specs.Claims.{spells, claimedAnswer};
+ghost use Rattle.rules.specs.Claims.{formJourney, claimedAnswer};
 ghost use Rattle.claims.specs.Following.{follows};
 use checks::Verdict;
 use rules::AskAnswer;
 
-// Whether the words, of which there may be none, lead on from u to v, each a held contact that leaves where and when the
-// one before it has arrived.
-fn follows(table: &[u32], u: u32, v: u32, chain: &[u32]) -> bool
+// Whether the words, of which there may be none, lead on from u to v, each a held contact in the window that leaves where
+// and when the one before it has arrived.
+fn follows(table: &[u32], u: u32, v: u32, first: u32, last: u32, chain: &[u32]) -> bool
     requires { ⌜ ValidTable (now table) ⌝ }
-    ensures { λ r. ⌜ r ≡ follows (now (table .entry)) v u 0 (now (chain .entry)) ⌝ }
+    ensures { λ r. ⌜ r ≡ follows (now (table .entry)) v first last u 0 (now (chain .entry)) ⌝ }
 {
     let carry = words::carry_of(table[0]);
     let mut x = u;
@@ -20,7 +20,7 @@ fn follows(table: &[u32], u: u32, v: u32, chain: &[u32]) -> bool
     let mut i = 0;
     while i < chain.len() {
         let w = chain[i];
-        if !held::goes_on(table, w, x, a) {
+        if !held::goes_on(table, w, first, last, x, a) {
             return false;
         }
         x = words::to_of(w);
@@ -31,22 +31,17 @@ fn follows(table: &[u32], u: u32, v: u32, chain: &[u32]) -> bool
 }
 
 // Whether there are words and they form a journey of held contacts from u to v that fits the window.
-fn spells(table: &[u32], u: u32, v: u32, first: u32, last: u32, chain: &[u32]) -> bool
+fn form_journey(table: &[u32], u: u32, v: u32, first: u32, last: u32, chain: &[u32]) -> bool
     requires { ⌜ ValidTable (now table) ⌝ }
-    ensures { λ r. ⌜ r ≡ spells (now (table .entry)) u v first last (now (chain .entry)) ⌝ }
+    ensures { λ r. ⌜ r ≡ formJourney (now (table .entry)) v first last u 0 (now (chain .entry)) ⌝ }
 {
     if chain.len() == 0 {
         return false;
     }
-    if !follows(table, u, v, chain) {
-        return false;
-    }
-    let departure = words::tick_of(chain[0]);
-    let arrival = words::tick_of(chain[chain.len() - 1]) + words::carry_of(table[0]);
-    cells::fits(departure, arrival, first, last)
+    follows(table, u, v, first, last, chain)
 }
 
-// Whether the words spell a journey of held contacts from u to v that fits the window. Refuses with 5, 6, 7, 8, 9.
+// Whether the words form a journey of held contacts from u to v that fits the window. Refuses with 5, 6, 7, 8, 9.
 pub fn claimed(table: &[u32], u: u32, v: u32, first: u32, last: u32, chain: &[u32]) -> AskAnswer
     ensures { λ r. ⌜ r ≡ claimedAnswer (now (table .entry)) u v first last (now (chain .entry)) ⌝ }
 {
@@ -54,7 +49,7 @@ pub fn claimed(table: &[u32], u: u32, v: u32, first: u32, last: u32, chain: &[u3
     match verdict {
         Verdict::Refused(r) => AskAnswer::Refused(r),
         Verdict::Passed => {
-            if spells(table, u, v, first, last, chain) {
+            if form_journey(table, u, v, first, last, chain) {
                 return AskAnswer::Yes;
             }
             AskAnswer::No

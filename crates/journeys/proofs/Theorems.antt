@@ -8,7 +8,7 @@ use native.Mathlib.Decide.{ℕ-discrete}
 use Rattle.journeys.specs.Journey.{Contact, contact, Contacts, In, With, Union, Same, Apart, Interval, interval, Inside, JourneyTo, single, onward, Minimal}
 use Rattle.journeys.specs.Cell.{Cell}
 use Rattle.journeys.specs.Adding.{Cells, add, addAll, cellsOver, ListsMinimal, CellsOf}
-use Rattle.journeys.specs.Theorems.{Closure, ContactsStand, EqualCells, Unchanged, FitsStored, RowsSuffice, SameMembers}
+use Rattle.journeys.specs.Theorems.{Closure, ContactsStand, EqualCells, Unchanged, InsideStored, RowsSuffice, SameMembers}
 use Rattle.journeys.proofs.Cover.{covers-find, same-cover, members-cover}
 use Rattle.journeys.proofs.Reach.{empty, empty-forward, journey-carries, within-reach}
 use Rattle.journeys.proofs.Closed.{Closed, closed-lists, lists-closed, closed-map, closed-unique, add-closed, add-diagonal, addAll-closed, addAll-diagonal, rising-closed}
@@ -123,8 +123,8 @@ unchanged δ S T k c x y n = equal-minimal (one-more δ S T k c .cells x y n) (c
 
 -- ---- 5
 
-pub fits-stored : FitsStored
-fits-stored δ S T k x y first last n = (
+pub inside-stored : InsideStored
+inside-stored δ S T k x y first last n = (
   λ w. covers-find (cells-closed k x y n .covers (interval first last) .1 (within-reach w)),
   λ w. (w .0, k .cells x y n .exact (w .0) .0 (w .1) .journey, w .2),
 )

@@ -1,7 +1,7 @@
 -- Contacts, journeys and minimal intervals (document 01, "Animals, ticks, carry time").
 use mathlib.Core.Path.{_≡_}
 use mathlib.Core.Logic.{_↔_, _⊎_, _≢_}
-use mathlib.Core.List.{List, List·Memᴰ}
+use mathlib.Core.List.{List, [], _∷_, List·Memᴰ}
 use Prim.Native.Nat.{ℕ, _+_, _≤_}
 
 -- A contact (u, v, t): what it carries departs from u at t and is with v from t + δ on, δ being the carry time.
@@ -59,6 +59,11 @@ pub data JourneyTo (S : Contacts) (δ y b : ℕ) : ℕ → ℕ → Type 0 where
 -- A journey of the contacts S from x to y whose interval is i: [first departure, last arrival].
 abbrev pub Journey : Contacts → ℕ → ℕ → ℕ → Interval → Type 0
 Journey S δ x y i = JourneyTo S δ y (i .arrival) x (i .departure)
+
+-- The contacts of a journey, in their order.
+abbrev pub contactsOf : {S : Contacts} {δ y b x a : ℕ} → JourneyTo S δ y b x a → List Contact
+contactsOf {y = y} (single {x} {a} s e) = contact x y a ∷ []
+contactsOf (onward {x} {a} z t s h j) = contact x z a ∷ contactsOf j
 
 -- The interval is minimal for the pair: it is that of a journey, and a journey's interval inside it is the same.
 pub record Minimal (S : Contacts) (δ x y : ℕ) (i : Interval) : Type 0 where

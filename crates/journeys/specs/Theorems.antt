@@ -33,11 +33,11 @@ abbrev pub Unchanged : Type 1
 Unchanged = (δ : ℕ) (S : Contacts) (T : Cells) (k : Contact) → CellsOf S δ T
     → (x y : ℕ) → x ≢ y → (add δ T k x y ≡ T x y) ↔ ((i : Interval) → Minimal (With S k) δ x y i ↔ Minimal S δ x y i)
 
--- 5. A journey of the pair fits in [first, last] exactly when a stored interval does.
-abbrev pub FitsStored : Type 1
-FitsStored = (δ : ℕ) (S : Contacts) (T : Cells) → CellsOf S δ T → (x y first last : ℕ) → x ≢ y
-    → ((i : Interval) × Journey S δ x y i × Inside i (interval first last))
-    ↔ ((i : Interval) × List·Memᴰ i (T x y) × Inside i (interval first last))
+-- 5. A journey of the pair has its interval inside [a, b] exactly when a stored interval lies inside it.
+abbrev pub InsideStored : Type 1
+InsideStored = (δ : ℕ) (S : Contacts) (T : Cells) → CellsOf S δ T → (x y a b : ℕ) → x ≢ y
+    → ((i : Interval) × Journey S δ x y i × Inside i (interval a b))
+    ↔ ((i : Interval) × List·Memᴰ i (T x y) × Inside i (interval a b))
 
 -- 6. On any well-formed cells, even of no closure, a contact at a tick of 1 to τ leaves well-formed cells, and no
 -- cell ever needs more than τ rows.

@@ -42,5 +42,6 @@ pub fn reaches(table: &[u32], u: u32, v: u32, first: u32, last: u32) -> bool
     requires { ⌜ (u < animals (now table)) × (v < animals (now table)) ⌝ }
     ensures { λ r. ⌜ r ≡ reaches (now (table .entry)) u v first last ⌝ }
 {
-    cells::has_fitting(tables::cell(table, u, v), first, last)
+    let carry = words::carry_of(table[0]);
+    cells::has_fitting(tables::cell(table, u, v), carry, first, last)
 }

@@ -11,24 +11,46 @@ use lib.Dec.{eqb}
 use Rattle.journeys.specs.Journey.{Contacts, Interval, Inside, Journey, Minimal}
 use Rattle.journeys.proofs.Tests.{untrue, Outcome, holds, fails, outcome-iff, eq-outcome, lt-outcome}
 use Rattle.journeys.proofs.Cover.{Covers, covers-find, member-covers, hasInside-outcome}
-use Rattle.journeys.proofs.Theorems.{fits-stored}
+use Rattle.journeys.proofs.Theorems.{inside-stored}
 use Rattle.rules.specs.Limits.{maxAnimals}
 use Rattle.rules.specs.declared.AskAnswer.the-variants.{Yes, No}
 use Rattle.rules.specs.declared.SetAnswer.the-variants.{Found}
 use Rattle.rules.specs.declared.Refusal.{Refusal}
 use Rattle.rules.specs.Answers.{unless}
 use Rattle.rules.specs.Folds.{flat, allBelow, countBelow}
-use Rattle.rules.specs.Layout.{cellAt, cellOf, cellsOf}
+use Rattle.rules.specs.Layout.{carry, cellAt, cellOf, cellsOf}
 use Rattle.rules.specs.Questions.{reaches, reachAnswer, connects, connectedAnswer, isReached, setWord, setWords, reachedRefusal, reachedAnswer, reachedWords, reachedCount}
 use Rattle.rules.specs.Fresh.{Fresh}
 use Rattle.rules.specs.Orders.{Sorted}
-use Rattle.rules.specs.Windows.{window, IsWindow, IsPair, Fits}
+use Rattle.rules.specs.Windows.{widest, IsWindow, IsPair, Fits}
+use Rattle.rules.specs.StoredAnswers.{StoredFits}
 use Rattle.rules.specs.Demand2.{StoredIn, AllFit, ReachedFrom, BitSet}
 use Rattle.rules.proofs.Folds.{all-below, below-all, flat-member, member-flat}
 use Rattle.rules.proofs.Sorted.{sorted-flat, sorted-one, member-one}
-use Rattle.rules.proofs.Fresh.{fresh-animals, fresh-ticks, fresh-cells}
+use Rattle.rules.proofs.Fresh.{fresh-animals, fresh-ticks, fresh-carry, fresh-cells}
+use Rattle.rules.proofs.Windows.{fits-iff}
 use Rattle.rules.proofs.Bits.{sum-bit}
-use Rattle.rules.proofs.Asked.{yes-iff, no-iff, valid-fresh, reach-asked, connected-asked, reached-asked}
+use Rattle.rules.proofs.Asked.{yes-iff, no-iff, ValidOf, valid-fresh, reach-asked, connected-asked, reached-asked}
+
+-- ---- reach on any table that passes 5 and 6
+
+-- A pair is reached exactly when a stored interval of it fits.
+pub reaches-stored : (T : List ℕ) (u v first last : ℕ) → (reaches T u v first last ≡ true) ↔ StoredFits T u v first last
+unfolding reaches
+reaches-stored T u v first last =
+    let e = outcome-iff (λ m c. m c) (hasInside-outcome (widest (carry T) first last) (cellsOf T u v)) in
+    (λ h. covers-find (e .0 h), λ r. e .1 (member-covers (r .1) (r .2)))
+
+module _ {n τ δ : ℕ} {T : List ℕ} (g : ValidOf n τ δ T) (u v first last : ℕ) (p : IsPair n u v) (w : IsWindow τ first last) {P : Type 0} (c : (reaches T u v first last ≡ true) ↔ P) where
+  pub reach-yes-iff : (reachAnswer T u v first last ≡ Yes) ↔ P
+  unfolding reachAnswer
+  reach-yes-iff = rw (reach-asked g u v first last p w) (yes-iff (reaches T u v first last) c)
+
+  pub reach-no-iff : (reachAnswer T u v first last ≡ No) ↔ (¬ P)
+  unfolding reachAnswer
+  reach-no-iff = rw (reach-asked g u v first last p w) (no-iff (reaches T u v first last) c)
+
+-- ---- on any fresh table
 
 module _ {n τ δ : ℕ} {S : Contacts} {T : List ℕ} (f : Fresh n τ δ S T) where
   -- ---- stored intervals
@@ -51,29 +73,23 @@ module _ {n τ δ : ℕ} {S : Contacts} {T : List ℕ} (f : Fresh n τ δ S T) w
   -- An interval is covered exactly when a journey lies inside it.
   pub covered-iff : (u v : ℕ) → IsPair n u v → (i : Interval) → Covers i (cellsOf T u v) ↔ ((j : Interval) × Journey S δ u v j × Inside j i)
   covered-iff u v p i =
-      let t = fits-stored δ S (f .cells) (f .minimal) u v (i .departure) (i .arrival) (p .apart) in
+      let t = inside-stored δ S (f .cells) (f .minimal) u v (i .departure) (i .arrival) (p .apart) in
       rw (cell-is u v p) (λ c. t .1 (covers-find c), λ h. let w = t .0 h in member-covers (w .1) (w .2))
 
   -- ---- reach
 
   pub reaches-iff : (u v : ℕ) → IsPair n u v → (first last : ℕ) → (reaches T u v first last ≡ true) ↔ Fits S δ u v first last
-  unfolding reaches
   reaches-iff u v p first last =
-      let e = outcome-iff (λ m c. m c) (hasInside-outcome (window first last) (cellsOf T u v)) in
-      let c = covered-iff u v p (window first last) in
-      (λ h. let w = c .0 (e .0 h) in record { taken = w .0; journey = w .1; fits = w .2 }, λ h. e .1 (c .1 (h .taken, h .journey, h .fits)))
+      let e = reaches-stored T u v first last in
+      let c = rw (cell-is u v p, fresh-carry f) at e in
+      let t = inside-stored δ S (f .cells) (f .minimal) u v first (last + δ) (p .apart) in
+      (λ h. fits-iff .1 (t .1 (c .0 h)), λ h. c .1 (t .0 (fits-iff .0 h)))
 
-  pub reach-yes : (u v first last : ℕ) → IsPair n u v → IsWindow τ δ first last → (reachAnswer T u v first last ≡ Yes) ↔ Fits S δ u v first last
-  unfolding reachAnswer
-  reach-yes u v first last p w =
-      rw (reach-asked (valid-fresh f) u v first last p w)
-      (let e = yes-iff (reaches T u v first last) in let c = reaches-iff u v p first last in (λ h. c .0 (e .0 h), λ h. e .1 (c .1 h)))
+  pub reach-yes : (u v first last : ℕ) → IsPair n u v → IsWindow τ first last → (reachAnswer T u v first last ≡ Yes) ↔ Fits S δ u v first last
+  reach-yes u v first last p w = reach-yes-iff (valid-fresh f) u v first last p w (reaches-iff u v p first last)
 
-  pub reach-no : (u v first last : ℕ) → IsPair n u v → IsWindow τ δ first last → (reachAnswer T u v first last ≡ No) ↔ (¬ Fits S δ u v first last)
-  unfolding reachAnswer
-  reach-no u v first last p w =
-      rw (reach-asked (valid-fresh f) u v first last p w)
-      (let e = no-iff (reaches T u v first last) in let c = reaches-iff u v p first last in (λ h k. e .0 h (c .1 k), λ h. e .1 (λ k. h (c .0 k))))
+  pub reach-no : (u v first last : ℕ) → IsPair n u v → IsWindow τ first last → (reachAnswer T u v first last ≡ No) ↔ (¬ Fits S δ u v first last)
+  reach-no u v first last p w = reach-no-iff (valid-fresh f) u v first last p w (reaches-iff u v p first last)
 
   -- ---- connected
 
@@ -95,14 +111,14 @@ module _ {n τ δ : ℕ} {S : Contacts} {T : List ℕ} (f : Fresh n τ δ S T) w
       λ g. all-below (λ u. allBelow (pairConnected u) n) n (λ u h. all-below (pairConnected u) n (λ v k. pair-iff u v h k .1 (λ d. g u v (record { from-below = h; to-below = k; apart = d })))),
     )
 
-    module _ (w : IsWindow τ δ first last) where
+    module _ (w : IsWindow τ first last) where
       pub connected-yes : (connectedAnswer T first last ≡ Yes) ↔ AllFit S δ n first last
       unfolding connectedAnswer
-      connected-yes = rw (connected-asked (valid-fresh f) first last w) (let e = yes-iff (connects T first last) in (λ h. connects-iff .0 (e .0 h), λ h. e .1 (connects-iff .1 h)))
+      connected-yes = rw (connected-asked (valid-fresh f) first last w) (yes-iff (connects T first last) connects-iff)
 
       pub connected-no : (connectedAnswer T first last ≡ No) ↔ (¬ AllFit S δ n first last)
       unfolding connectedAnswer
-      connected-no = rw (connected-asked (valid-fresh f) first last w) (let e = no-iff (connects T first last) in (λ h k. e .0 h (connects-iff .1 k), λ h. e .1 (λ k. h (connects-iff .0 k))))
+      connected-no = rw (connected-asked (valid-fresh f) first last w) (no-iff (connects T first last) connects-iff)
 
   -- ---- reached
 
@@ -151,7 +167,7 @@ module _ {n τ δ : ℕ} {S : Contacts} {T : List ℕ} (f : Fresh n τ δ S T) w
         of : ReachedFrom S δ n u first last i → List·Memᴰ i reachedList
         of r = flat-member one n i (r .below) (subst (λ b. List·Memᴰ i (cond b (i ∷ []) [])) (sym (reached-iff i .1 r)) (List·Memᴰ·head refl))
 
-    module _ (w : IsWindow τ δ first last) where
+    module _ (w : IsWindow τ first last) where
       pub reached-found : reachedAnswer T u first last ≡ Found
       unfolding reachedAnswer
       reached-found = rw (reached-asked (valid-fresh f) u first last h w) refl

@@ -1,13 +1,12 @@
 -- When a question is not refused, and what its answer then says.
-use mathlib.Core.Path.{_≡_, refl, sym, ap, subst}
+use mathlib.Core.Path.{_≡_, refl, sym, ap, _∙_, subst}
 use mathlib.Core.Logic.{_↔_}
 use mathlib.Core.Bool.{Bool, true, false, not, _&&_}
 use mathlib.Core.Option.{Option, none, some}
 use mathlib.Core.List.{List}
 use Prim.Native.Nat.{ℕ, _+_, _≤_, _<_}
-use native.Mathlib.Omega.{arith}
 use lib.Dec.{ltb, eqb}
-use borrow.Author.Tests.{lt-ltb, ltb-true, le-leb, ne-eqb}
+use borrow.Author.Tests.{lt-ltb, ltb-true, ne-eqb}
 use Rattle.journeys.specs.Journey.{Contacts, Interval, interval}
 use Rattle.journeys.proofs.Tests.{never, untrue}
 use Rattle.rules.specs.declared.Refusal.{Refusal}
@@ -22,20 +21,22 @@ use Rattle.rules.specs.Checks.{isOpen, wellFormed, ensureTable, ValidTab
 use Rattle.rules.specs.Adding.{ensurePair}
 use Rattle.rules.specs.Questions.{ensureAnimal, reachRefusal, momentRefusal, connectedRefusal, reachedRefusal}
 use Rattle.rules.specs.Fresh.{Fresh}
-use Rattle.rules.specs.Windows.{lastArrival, windowInRange, inOrder, ensureWindow, IsWindow, IsPair}
+use Rattle.rules.specs.Windows.{lastArrival, ensureWindow, IsWindow, IsPair}
 use Rattle.rules.proofs.Folds.{and-left, and-right, and-intro}
 use Rattle.rules.proofs.Judged.{ensure-iff, within-iff}
+use Rattle.rules.proofs.Windows.{window-accepted}
 use Rattle.rules.proofs.Fresh.{fresh-passes, fresh-animals, fresh-ticks, fresh-carry}
 
 -- ---- answers
 
-pub yes-iff : (b : Bool) → (askAnswerOf none b ≡ Yes) ↔ (b ≡ true)
-yes-iff true = (λ e. refl, λ e. refl)
-yes-iff false = (λ e. never cc, λ e. untrue e)
+-- A test is answered yes exactly when what it asks holds, and no exactly when it does not.
+pub yes-iff : {P : Type 0} (b : Bool) → (b ≡ true) ↔ P → (askAnswerOf none b ≡ Yes) ↔ P
+yes-iff true c = (λ e. c .0 refl, λ p. refl)
+yes-iff false c = (λ e. never cc, λ p. untrue (c .1 p))
 
-pub no-iff : (b : Bool) → (askAnswerOf none b ≡ No) ↔ (¬ (b ≡ true))
-no-iff true = (λ e. never cc, λ e. absurd (e refl))
-no-iff false = (λ e q. untrue q, λ e. refl)
+pub no-iff : {P : Type 0} (b : Bool) → (b ≡ true) ↔ P → (askAnswerOf none b ≡ No) ↔ (¬ P)
+no-iff true c = (λ e. never cc, λ n. absurd (n (c .0 refl)))
+no-iff false c = (λ e p. untrue (c .1 p), λ n. refl)
 
 pub at-iff : (o : Option Interval) (e : Ends) → (intervalAnswerOf none o ≡ At e) ↔ (o ≡ some (interval (e .departure) (e .arrival)))
 at-iff none e = (λ q. never cc, λ q. never cc)
@@ -56,6 +57,10 @@ pub record ValidOf (n τ δ : ℕ) (T : List ℕ) : Type 0 where
   pub animals-are : animals T ≡ n
   pub ticks-are : ticks T ≡ τ
   pub carry-is : carry T ≡ δ
+
+-- Any such table does, with its own numbers.
+pub valid-itself : (T : List ℕ) → ValidTable T → ValidOf (animals T) (ticks T) (carry T) T
+valid-itself T q = record { valid = q; animals-are = refl; ticks-are = refl; carry-is = refl }
 
 -- A fresh table does.
 pub valid-fresh : {n τ δ : ℕ} {S : Contacts} {T : List ℕ} → Fresh n τ δ S T → ValidOf n τ δ T
@@ -82,19 +87,15 @@ module _ {n τ δ : ℕ} {T : List ℕ} (f : ValidOf n τ δ T) where
   in-range : (t : ℕ) → 1 ≤ t → t ≤ τ + δ → within 1 t (lastArrival T) ≡ true
   in-range t h k = within-iff 1 t (lastArrival T) .1 (h, subst (λ m. t ≤ m) (sym last-is) k)
 
-  window-passes : (first last : ℕ) → IsWindow τ δ first last → (o : Option Refusal) → o ≡ none → ensureWindow T first last o ≡ none
-  window-passes first last w o e =
-      ensure-iff (windowInRange T first last) TickOutOfRange _ .1 (
-        and-intro (within 1 first (lastArrival T)) (within 1 last (lastArrival T)) (in-range first (w .from-one) (omega (arith, w .in-order, w .to-last))) (in-range last (omega (arith, w .from-one, w .in-order)) (w .to-last)),
-        ensure-iff (inOrder first last) TickOutOfRange o .1 (le-leb first last (w .in-order), e),
-      )
+  window-passes : (first last : ℕ) → IsWindow τ first last → (o : Option Refusal) → o ≡ none → ensureWindow T first last o ≡ none
+  window-passes first last w o e = window-accepted T first last (subst (λ m. IsWindow m first last) (sym (f .ticks-are)) w) o ∙ e
 
   -- Two different animals and a window leave it to the checks behind them.
-  pub asked-with : (u v first last : ℕ) → IsPair n u v → IsWindow τ δ first last → (o : Option Refusal) → o ≡ none → ensureTable T (ensurePair T u v (ensureWindow T first last o)) ≡ none
+  pub asked-with : (u v first last : ℕ) → IsPair n u v → IsWindow τ first last → (o : Option Refusal) → o ≡ none → ensureTable T (ensurePair T u v (ensureWindow T first last o)) ≡ none
   asked-with u v first last p w o e = table-passes _ (pair-passes u v p _ (window-passes first last w o e))
 
   -- A question about two different animals and a window is answered.
-  pub reach-asked : (u v first last : ℕ) → IsPair n u v → IsWindow τ δ first last → reachRefusal T u v first last ≡ none
+  pub reach-asked : (u v first last : ℕ) → IsPair n u v → IsWindow τ first last → reachRefusal T u v first last ≡ none
   unfolding reachRefusal
   reach-asked u v first last p w = asked-with u v first last p w none refl
 
@@ -102,11 +103,11 @@ module _ {n τ δ : ℕ} {T : List ℕ} (f : ValidOf n τ δ T) where
   unfolding momentRefusal
   moment-asked u v t p h k = table-passes _ (pair-passes u v p _ (ensure-iff (within 1 t (lastArrival T)) TickOutOfRange none .1 (in-range t h k, refl)))
 
-  pub connected-asked : (first last : ℕ) → IsWindow τ δ first last → connectedRefusal T first last ≡ none
+  pub connected-asked : (first last : ℕ) → IsWindow τ first last → connectedRefusal T first last ≡ none
   unfolding connectedRefusal
   connected-asked first last w = table-passes _ (window-passes first last w none refl)
 
-  pub reached-asked : (u first last : ℕ) → u < n → IsWindow τ δ first last → reachedRefusal T u first last ≡ none
+  pub reached-asked : (u first last : ℕ) → u < n → IsWindow τ first last → reachedRefusal T u first last ≡ none
   unfolding reachedRefusal
   reached-asked u first last h w = table-passes _ (animal-passes u h _ (window-passes first last w none refl))
 

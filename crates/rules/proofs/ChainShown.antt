@@ -26,16 +26,18 @@ use Rattle.rules.specs.declared.AskAnswer.the-variants.{Yes}
 use Rattle.rules.specs.Questions.{reachAnswer}
 use Rattle.rules.specs.Claims.{claimedAnswer}
 use Rattle.rules.specs.Fresh.{Fresh}
-use Rattle.rules.specs.Windows.{window, FitsWindow, fitsWindow, Fits, IsWindow, IsPair}
+use Rattle.rules.specs.Windows.{widest, FitsWindow, fitsWindow, Fits, IsWindow, IsPair}
 use Rattle.rules.specs.EarliestLatest.{Earliest, Latest}
 use Rattle.rules.proofs.Judged.{ensure-iff}
-use Rattle.rules.proofs.Fresh.{fresh-animals}
+use Rattle.rules.proofs.Fresh.{fresh-animals, fresh-carry}
+use Rattle.rules.proofs.Windows.{into-window, into-contacts, of-set, ends-fit}
 use Rattle.rules.proofs.Asked.{valid-fresh, asked-with}
 use Rattle.rules.proofs.Answered.{reach-yes}
 use Rattle.rules.proofs.EarliestLatest.{earliest-some, earliest-nothing, latest-some, latest-nothing}
 use Rattle.rules.proofs.Chains.{chain-unique, chain-sound, chain-complete, chain-distinct, chain-journey, chain-below}
 use Rattle.rules.proofs.Distinct.{distinct-few}
 use Rattle.rules.proofs.Claims.{claims-judged}
+use Rattle.rules.proofs.WindowChains.{chain-in-window, chain-window-alone}
 
 pub one-chain : (S : Contacts) (δ u v first last : ℕ) (l m : List Contact) → NamedChain S δ u v first last l → NamedChain S δ u v first last m → l ≡ m
 one-chain S δ u v first last l m p q =
@@ -63,15 +65,15 @@ module _ {n τ δ : ℕ} {S : Contacts} {T : List ℕ} (f : Fresh n τ δ S T) (
     kept-minimal : Minimal S δ u v (interval d b)
     kept-minimal = subst (λ a. Minimal S δ u v (interval a b)) (sym departs) (e .is-minimal)
 
-    found : FitsWindow (interval d b) first last → (l : List Contact) × (chainFrom T v b (animals T - 1) u d ≡ some l) × NamedChain S δ u v first last l
+    found : FitsWindow δ (interval d b) first last → (l : List Contact) × (chainFrom T v b (animals T - 1) u d ≡ some l) × NamedChain S δ u v first last l
     found h =
         let r = chain-complete f v b (p .to-below) (animals T - 1) u d [] (p .from-below) (p .apart) kept-minimal apart-two (λ y m. absurd (List·Memᴰ·not-nil m)) (omega (arith, fresh-animals f)) in (
           r .0,
           r .1,
           record {
-            kept = record { taken = interval d b; journey = kept-minimal .journey; fits = h };
-            earliest = λ o. e .least (o .taken) (o .journey) (o .fits .0);
-            latest = λ o q. g .greatest (o .taken) (o .journey) (omega arith);
+            kept = record { taken = interval d b; journey = into-window first last (kept-minimal .journey) (h .0) (h .1) };
+            earliest = λ o. e .least (o .taken) (of-set first last (o .journey)) (ends-fit first last (o .journey) .0);
+            latest = λ o q. g .greatest (o .taken) (of-set first last (o .journey)) (omega arith);
             chain = chain-sound f v b (p .to-below) (animals T - 1) u d (r .0) (p .from-below) kept-minimal (r .1);
           },
         )
@@ -83,7 +85,7 @@ module _ {n τ δ : ℕ} {S : Contacts} {T : List ℕ} (f : Fresh n τ δ S T) (
 
   -- The chain of the interval [d, b], if it fits; that of the latest departure by b; and that of an arrival.
   abbrev fitting : ℕ → ℕ → Option (List Contact)
-  fitting b d = cond (fitsWindow (interval d b) first last) (chainFrom T v b (animals T - 1) u d) none
+  fitting b d = cond (fitsWindow δ (interval d b) first last) (chainFrom T v b (animals T - 1) u d) none
 
   abbrev arriving : ℕ → Option (List Contact)
   arriving b = withTick (latestDeparture (cellsOf T u v) b) (fitting b)
@@ -99,12 +101,12 @@ module _ {n τ δ : ℕ} {S : Contacts} {T : List ℕ} (f : Fresh n τ δ S T) (
   -- The interval kept fits exactly when some journey does.
   shown-kept : (i k : Interval) → Earliest (Minimal S δ u v) (Journey S δ u v) first i → Latest (Minimal S δ u v) (Journey S δ u v) (i .arrival) k
       → Shown (fitting (i .arrival) (k .departure))
-  shown-kept i k e g = go (inside-outcome (interval (k .departure) (i .arrival)) (window first last))
+  shown-kept i k e g = go (inside-outcome (interval (k .departure) (i .arrival)) (widest δ first last))
     where
-      go : {t : Bool} → Outcome (FitsWindow (interval (k .departure) (i .arrival)) first last) ((k .departure < window first last .departure) ⊎ (window first last .arrival < i .arrival)) t
+      go : {t : Bool} → Outcome (FitsWindow δ (interval (k .departure) (i .arrival)) first last) ((k .departure < first) ⊎ (last + δ < i .arrival)) t
           → Shown (cond t (chainFrom T v (i .arrival) (animals T - 1) u (k .departure)) none)
       go (holds h) = let r = found i k e g h in subst Shown (sym (r .1)) (named (r .2))
-      go (fails o) = nothing (λ w. ⊎-elim (λ l. omega (arith, e .departs, departs i k e g)) (λ l. omega (arith, w .fits, e .least (w .taken) (w .journey) (w .fits .0))) o)
+      go (fails o) = nothing (λ w. ⊎-elim (λ l. omega (arith, e .departs, departs i k e g)) (λ l. let r = ends-fit first last (w .journey) in omega (arith, e .least (w .taken) (of-set first last (w .journey)) (r .0))) o)
 
   -- Where nothing departs by the arrival kept, nothing arrives then.
   shown-departure : (i : Interval) → Earliest (Minimal S δ u v) (Journey S δ u v) first i → (o : Option Interval) → latestDeparting (cellsOf T u v) (i .arrival) ≡ o
@@ -114,13 +116,13 @@ module _ {n τ δ : ℕ} {S : Contacts} {T : List ℕ} (f : Fresh n τ δ S T) (
 
   shown-arrival : (o : Option Interval) → earliestArriving (cellsOf T u v) first ≡ o → Shown (withTick (Option·map (λ i. i .arrival) o) arriving)
   unfolding latestDeparture
-  shown-arrival none q = nothing (λ w. earliest-nothing f u v p first .0 q (w .taken) (w .journey) (w .fits .0))
+  shown-arrival none q = nothing (λ w. earliest-nothing f u v p first .0 q (w .taken) (of-set first last (w .journey)) (ends-fit first last (w .journey) .0))
   shown-arrival (some i) q = shown-departure i (earliest-some f u v p first i .0 q) (latestDeparting (cellsOf T u v) (i .arrival)) refl
 
   -- What the rule gives is the chain named, and none where no journey fits.
   chain-shown : Shown (chainOf T u v first last)
   unfolding chainOf earliestArrival
-  chain-shown = shown-arrival (earliestArriving (cellsOf T u v) first) refl
+  chain-shown = rw (fresh-carry f) (shown-arrival (earliestArriving (cellsOf T u v) first) refl)
 
   -- Where a journey fits, the chain is found and is the one named.
   chain-found : Fits S δ u v first last → Result (chainOf T u v first last)
@@ -139,7 +141,7 @@ module _ {n τ δ : ℕ} {S : Contacts} {T : List ℕ} (f : Fresh n τ δ S T) (
       go (named c) = absurd (n (c .kept))
       go (nothing k) = refl
 
-  module _ (w : IsWindow τ δ first last) (B : List ℕ) (h : n ≤ length B + 1) where
+  module _ (w : IsWindow τ first last) (B : List ℕ) (h : n ≤ length B + 1) where
     chain-asked : chainRefusal T u v first last B ≡ none
     unfolding chainRefusal
     chain-asked =
@@ -163,7 +165,7 @@ module _ {n τ δ : ℕ} {S : Contacts} {T : List ℕ} (f : Fresh n τ δ S T) (
   named-when = (λ k. let r = chain-found k in (r .0, r .2), λ r. r .1 .kept)
 
   -- A chain is given exactly when reach says yes.
-  given-when : IsWindow τ δ first last → (reachAnswer T u v first last ≡ Yes) ↔ ((l : List Contact) × (chainOf T u v first last ≡ some l))
+  given-when : IsWindow τ first last → (reachAnswer T u v first last ≡ Yes) ↔ ((l : List Contact) × (chainOf T u v first last ≡ some l))
   unfolding Result
   given-when w = (
     λ e. let r = chain-found (reach-yes f u v first last p w .0 e) in (r .0, r .1),
@@ -178,11 +180,11 @@ module _ {n τ δ : ℕ} {S : Contacts} {T : List ℕ} (f : Fresh n τ δ S T) (
 
 module _ {n τ δ : ℕ} {S : Contacts} {T : List ℕ} (f : Fresh n τ δ S T) (u v first last : ℕ) (p : IsPair n u v) (l : List Contact) (c : NamedChain S δ u v first last l) where
   named-minimal : Minimal S δ u v (c .kept .taken)
-  named-minimal = record { journey = c .kept .journey; least = λ i j h. (λ k. record { departure = same-departure i j h k; arrival = same-arrival i j h k }) }
+  named-minimal = record { journey = of-set first last (c .kept .journey); least = λ i j h. (λ k. record { departure = same-departure i j h k; arrival = same-arrival i j h k }) }
     where
       -- A journey inside the one that is kept fits too.
       also : (i : Interval) → Journey S δ u v i → Inside i (c .kept .taken) → Fits S δ u v first last
-      also i j h = record { taken = i; journey = j; fits = omega (arith, c .kept .fits) }
+      also i j h = let r = ends-fit first last (c .kept .journey) in record { taken = i; journey = into-window first last j (omega arith) (omega arith) }
 
       same-arrival : (i : Interval) → Journey S δ u v i → Inside i (c .kept .taken) → i .arrival ≡ c .kept .taken .arrival
       same-arrival i j h = omega (arith, c .earliest (also i j h))
@@ -202,15 +204,21 @@ module _ {n τ δ : ℕ} {S : Contacts} {T : List ℕ} (f : Fresh n τ δ S T) (
       let r = distinct-few n (v ∷ leavers l) twice-none (λ y m. ⊎-elim (λ q. subst (λ w. w < n) (sym q) (p .to-below)) (chain-below n (λ k s. f .legal k s .from-below) (c .chain) y) (List·Memᴰ·cases-cons m)) in
       omega (arith, leavers-length l)
 
-  claimed-yes : IsWindow τ δ first last → claimedAnswer T u v first last (map contactWord l) ≡ Yes
+  claimed-yes : IsWindow τ first last → claimedAnswer T u v first last (map contactWord l) ≡ Yes
   claimed-yes w =
       let r = chain-journey (c .chain) in
+      let h = ends-fit first last (c .kept .journey) in
       claims-judged .yes-when n τ δ S T f u v first last p w (map contactWord l) .1
-      (record { spelled = record { taken = c .kept .taken; journey = r .0; fits = c .kept .fits }; words = ap (map contactWord) (sym (r .1)) })
+      (record {
+        spelled = record { taken = c .kept .taken; journey = into-window first last (r .0) (h .0) (h .1) };
+        words = ap (map contactWord) (sym (r .1) ∙ sym (into-contacts first last (r .0) (h .0) (h .1)));
+      })
 
 pub named-chains : NamedChains
 named-chains =
     record {
+      in-window = chain-in-window;
+      window-alone = chain-window-alone;
       no-animal-twice = λ n τ δ S T f u v first last p l c. twice-none f u v first last p l c;
       enough = λ n τ δ S T f u v first last p l c. words-enough f u v first last p l c;
       claimed = λ n τ δ S T f u v first last p w l c. claimed-yes f u v first last p l c w;

@@ -1,24 +1,22 @@
 -- The chain of a fresh table is the one that the rule names, is given exactly when a journey fits, and names no animal twice.
-use mathlib.Core.Path.{_≡_, refl, sym, ap, _∙_, subst}
-use mathlib.Core.Logic.{_↔_, _⊎_, inl, inr, ⊎-elim, _≢_}
-use mathlib.Core.Bool.{Bool, true, false, cond}
+use mathlib.Core.Path.{_≡_, refl, sym, ap, subst}
+use mathlib.Core.Logic.{_⊎_, inl, inr, ⊎-elim, _≢_}
 use mathlib.Core.Option.{Option, none, some}
-use mathlib.Core.List.{List, [], _∷_, List·Memᴰ, List·Memᴰ·head, List·Memᴰ·tail, List·Memᴰ·cases-cons, List·Memᴰ·not-nil}
+use mathlib.Core.List.{List, [], _∷_, List·Memᴰ, List·Memᴰ·cases-cons, List·Memᴰ·not-nil}
 use Prim.Native.Nat.{ℕ, zero, suc, _+_, _-_, _≤_, _<_}
 use native.Mathlib.Nat.{le-refl}
 use native.Mathlib.Omega.{arith}
 use native.Mathlib.Decide.{ℕ-discrete, decLe}
 use lib.ListN.{length}
-use Rattle.journeys.specs.Journey.{Contact, contact, Contacts, Interval, interval, Inside, JourneyTo, single, onward, Journey, Minimal}
+use Rattle.journeys.specs.Journey.{Contact, contact, Contacts, Interval, interval, Inside, JourneyTo, single, onward, Journey, contactsOf, Minimal}
 use Rattle.journeys.proofs.Tests.{never}
 use Rattle.journeys.proofs.Reach.{journey-carries}
 use Rattle.journeys.proofs.Cover.{departure-path, arrival-path}
-use Rattle.rules.specs.Layout.{animals, cellsOf}
-use Rattle.rules.specs.Chains.{Lead, nowhere, there, leadsOn, leads, Lowest, nobody, animal, lowest, prepend, follow, chainFrom}
+use Rattle.rules.specs.Layout.{animals}
+use Rattle.rules.specs.Chains.{Lead, nowhere, there, leadsOn, leads, Lowest, animal, lowest, prepend, follow, chainFrom}
 use Rattle.rules.specs.ChainRule.{StillHad, Candidate, LowestCandidate, LatestLeaving, IsChain, last, next}
 use Rattle.rules.specs.Orders.{Distinct}
 use Rattle.rules.specs.NamedChains.{leavers}
-use Rattle.rules.specs.Claims.{contactsOf}
 use Rattle.rules.specs.Fresh.{Fresh}
 use Rattle.rules.proofs.Fresh.{fresh-animals}
 use Rattle.rules.proofs.Distinct.{distinct-few}
@@ -49,14 +47,54 @@ module _ {S : Contacts} {δ goal b : ℕ} where
       go : (IsChain S δ goal b z e m → l ≡ m) → contact x z d ∷ l ≡ contact x y d ∷ m
       go rest = λ i. contact x (sym same-animal i) d ∷ rest (subst (λ w. IsChain S δ goal b w e m) same-animal (subst (λ w. IsChain S δ goal b y w m) same-departure h)) i
 
--- ---- a fresh table
+-- ---- the way that the rule goes, on any table
 
-module _ {n τ δ : ℕ} {S : Contacts} {T : List ℕ} (f : Fresh n τ δ S T) (goal b : ℕ) (hg : goal < n) where
+module _ (T : List ℕ) (goal b : ℕ) where
+  -- Of the animals to which a contact leads from x at departure d, z is the lowest, and it leads so.
+  pub record LowestLead (x d z : ℕ) (w : Lead) : Type 0 where
+    pub below : z < animals T
+    pub leads-so : leads T goal b x d z ≡ w
+    pub none-lower : (y : ℕ) → y < z → leads T goal b x d y ≡ nowhere
+
+  -- From x at departure d the rule goes through these contacts.
+  pub data Walked : ℕ → ℕ → List Contact → Type 0 where
+    ends : {x d : ℕ} (z : ℕ) → LowestLead x d z there → Walked x d (contact x z d ∷ [])
+    goes : {x d : ℕ} {l : List Contact} (z e : ℕ) → LowestLead x d z (leadsOn e) → Walked z e l → Walked x d (contact x z d ∷ l)
+
   none-is : {A : Type 0} {l : List Contact} → none ≡ some l → A
   none-is e = never cc
 
   some-is : {l m : List Contact} → some l ≡ some m → l ≡ m
   some-is e = cc
+
+  pub chain-walked : (most x d : ℕ) (l : List Contact) → chainFrom T goal b most x d ≡ some l → Walked x d l
+  unfolding chainFrom
+  chain-walked zero x d l e = none-is e
+  chain-walked (suc most) x d l e = go (lowest-of (leads T goal b x d) (animals T)) (λ z g k q. chain-walked most z g k q) e
+    where
+      Rest : Type 0
+      Rest = (z g : ℕ) (k : List Contact) → chainFrom T goal b most z g ≡ some k → Walked z g k
+
+      onwards : (z g : ℕ) → LowestLead x d z (leadsOn g) → (o : Option (List Contact)) → ((k : List Contact) → o ≡ some k → Walked z g k)
+          → prepend (contact x z d) o ≡ some l → Walked x d l
+      onwards z g p none r q = none-is q
+      onwards z g p (some k) r q = subst (Walked x d) (some-is q) (goes z g p (r k refl))
+
+      step : (z : ℕ) (w : Lead) → w ≢ nowhere → LowestLead x d z w → Rest → follow x d (animal z w) (chainFrom T goal b most) ≡ some l → Walked x d l
+      step z nowhere k p rest q = absurd (k refl)
+      step z there k p rest q = subst (Walked x d) (some-is q) (ends z p)
+      step z (leadsOn g) k p rest q = onwards z g p (chainFrom T goal b most z g) (λ m e. rest z g m e) q
+
+      go : {o : Lowest} → LowestOf (leads T goal b x d) (animals T) o → Rest → follow x d o (chainFrom T goal b most) ≡ some l → Walked x d l
+      go (none-below r) rest q = none-is q
+      go (first-is {z} {l = w} h p k r) rest q = step z w k (record { below = h; leads-so = p; none-lower = r }) rest q
+
+-- ---- a fresh table
+
+module _ {n τ δ : ℕ} {S : Contacts} {T : List ℕ} (f : Fresh n τ δ S T) (goal b : ℕ) (hg : goal < n) where
+  -- An animal of the table is below n.
+  below-n : {x d z : ℕ} {w : Lead} → LowestLead T goal b x d z w → z < n
+  below-n {z = z} p = subst (λ i. z < i) (fresh-animals f) (p .below)
 
   module _ (x d : ℕ) (hx : x < n) (minimal : Minimal S δ x goal (interval d b)) where
     abbrev Leads : ℕ → Lead → Type 0
@@ -103,33 +141,23 @@ module _ {n τ δ : ℕ} {S : Contacts} {T : List ℕ} (f : Fresh n τ δ S T) (
 
   -- ---- what chainFrom gives is the chain
 
-  pub chain-sound : (most x d : ℕ) (l : List Contact) → x < n → Minimal S δ x goal (interval d b) → chainFrom T goal b most x d ≡ some l → IsChain S δ goal b x d l
-  unfolding chainFrom
-  chain-sound zero x d l hx m e = none-is e
-  chain-sound (suc most) x d l hx m e = go (lowest-of (leads T goal b x d) (animals T)) (λ z g k h q. chain-sound most z g k h q) e
+  sound : {x d : ℕ} {l : List Contact} → x < n → Minimal S δ x goal (interval d b) → Walked T goal b x d l → IsChain S δ goal b x d l
+  sound {x} {d} hx m (ends z p) = arrives (lead-is x d hx m z (below-n p) (p .leads-so))
     where
-      onwards : (z g : ℕ) → LowestCandidate S δ goal b x d z → z ≢ goal → LatestLeaving S δ goal b z (d + δ) g → (o : Option (List Contact)) → ((k : List Contact) → o ≡ some k → IsChain S δ goal b z g k)
-          → prepend (contact x z d) o ≡ some l → IsChain S δ goal b x d l
-      onwards z g p k r none h q = none-is q
-      onwards z g p k r (some w) h q = subst (IsChain S δ goal b x d) (some-is q) (next z g p k r (h w refl))
+      arrives : Leads x d hx m z there → IsChain S δ goal b x d (contact x z d ∷ [])
+      arrives (arrived s g a) =
+          subst (λ w. IsChain S δ goal b x d (contact x w d ∷ [])) (sym g)
+          (last (subst (LowestCandidate S δ goal b x d) g (lowest-candidate x d hx m z (record { contact-held = s; had = inl (g, a) }) (p .none-lower))) a)
+  sound {x} {d} hx m (goes {l = l} z e p w) = on (lead-is x d hx m z (below-n p) (p .leads-so)) (λ k. sound (below-n p) k w)
+    where
+      on : Leads x d hx m z (leadsOn e) → (Minimal S δ z goal (interval e b) → IsChain S δ goal b z e l) → IsChain S δ goal b x d (contact x z d ∷ l)
+      on (going s o late small) rest =
+          next z e
+          (lowest-candidate x d hx m z (record { contact-held = s; had = inr (o, record { departure = e; leaves = late .leaves; journey = late .journey }) }) (p .none-lower))
+          o late (rest small)
 
-      step : (z : ℕ) (w : Lead) → z < n → leads T goal b x d z ≡ w → w ≢ nowhere → ((y : ℕ) → y < z → leads T goal b x d y ≡ nowhere) → Leads x d hx m z w
-          → ((z g : ℕ) (k : List Contact) → z < n → Minimal S δ z goal (interval g b) → chainFrom T goal b most z g ≡ some k → IsChain S δ goal b z g k)
-          → follow x d (animal z w) (chainFrom T goal b most) ≡ some l → IsChain S δ goal b x d l
-      step z nowhere hz p k r t rest q = absurd (k refl)
-      step z there hz p k r (arrived s g a) rest q =
-          subst (IsChain S δ goal b x d) (ap (λ w. contact x w d ∷ []) (sym g) ∙ some-is q)
-          (last (subst (LowestCandidate S δ goal b x d) g (lowest-candidate x d hx m z (record { contact-held = s; had = inl (g, a) }) r)) a)
-      step z (leadsOn g) hz p k r (going s o late small) rest q =
-          onwards z g
-          (lowest-candidate x d hx m z (record { contact-held = s; had = inr (o, record { departure = g; leaves = late .leaves; journey = late .journey }) }) r)
-          o late (chainFrom T goal b most z g) (λ w e. rest z g w hz small e) q
-
-      go : {o : Lowest} → LowestOf (leads T goal b x d) (animals T) o
-          → ((z g : ℕ) (k : List Contact) → z < n → Minimal S δ z goal (interval g b) → chainFrom T goal b most z g ≡ some k → IsChain S δ goal b z g k)
-          → follow x d o (chainFrom T goal b most) ≡ some l → IsChain S δ goal b x d l
-      go (none-below r) rest q = none-is q
-      go (first-is {z} {l = w} h p k r) rest q = let i = subst (λ j. z < j) (fresh-animals f) h in step z w i p k r (lead-is x d hx m z i p) rest q
+  pub chain-sound : (most x d : ℕ) (l : List Contact) → x < n → Minimal S δ x goal (interval d b) → chainFrom T goal b most x d ≡ some l → IsChain S δ goal b x d l
+  chain-sound most x d l hx m e = sound hx m (chain-walked T goal b most x d l e)
 
   -- ---- a chain is found wherever the journey kept is minimal
 

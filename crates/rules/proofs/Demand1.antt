@@ -9,8 +9,7 @@ use native.Mathlib.Omega.{arith}
 use lib.ListN.{length, getD, take, drop, length-append, length-map, length-take, length-drop, replicate}
 use lib.Dec.{leb, ltb, eqb}
 use borrow.Author.Tests.{leb-true}
-use Rattle.journeys.specs.Journey.{Contact, contact, interval}
-use Rattle.journeys.specs.Cell.{latestDeparture, earliestArrival}
+use Rattle.journeys.specs.Journey.{Contact, contact}
 use Rattle.journeys.proofs.Tests.{never}
 use Rattle.rules.specs.declared.Refusal.{Refusal}
 use Rattle.rules.specs.declared.OpenAnswer.the-variants.{Opened, Refused as OpenRefused}
@@ -35,9 +34,9 @@ use Rattle.rules.specs.Fresh.{Fresh}
 use Rattle.rules.specs.CallLists.{LegalOf, Accepted}
 use Rattle.rules.specs.Reading.{loggedContacts, readRefusal, different, readAnswer, readLeaves}
 use Rattle.rules.specs.Folds.{countBelow, within}
-use Rattle.rules.specs.Windows.{fitsWindow, windowInRange, inOrder}
+use Rattle.rules.specs.Windows.{windowInRange, inOrder}
 use Rattle.rules.specs.Questions.{setAnswerOf, isReached, setWords, reachedRefusal, reachedAnswer, reachedWords, reachedCount, setOver, reachedLeaves}
-use Rattle.rules.specs.Chains.{nowhere, there, leadsOn, leads, Lowest, nobody, animal, lowest, prepend, follow, chainFrom, withTick, chainOf, chainRefusal, chainAnswerOf, chainAnswer, chainWords, chainLeaves}
+use Rattle.rules.specs.Chains.{nowhere, there, leadsOn, leads, Lowest, nobody, animal, lowest, prepend, follow, chainFrom, chainOf, chainRefusal, chainAnswerOf, chainAnswer, chainWords, chainLeaves}
 use Rattle.rules.specs.Counting.{fullTally, tallySum, countedAnswer, countedLeaves, raised, countedTally}
 use Rattle.rules.specs.QuestionList.{asked, listRefusal, listAnswerOf, listAnswer, listLeaves}
 use Rattle.rules.specs.Demand1.{Demand1}
@@ -50,6 +49,7 @@ use Rattle.rules.proofs.Joining.{join-kept, join-length, join-valid}
 use Rattle.rules.proofs.Stays.{stays-kept, stays-length, stays-valid}
 use Rattle.rules.proofs.Reading.{Readable, read-iff, read-opens, log-length}
 use Rattle.rules.proofs.Counted.{counted-cases}
+use Rattle.rules.proofs.KeptChain.{KeptChain, nothing-kept, kept, kept-chain}
 
 -- ---- opening
 
@@ -301,22 +301,12 @@ chain-short T goal b (suc most) x d = go (lowest (leads T goal b x d) (animals T
     go (animal z (leadsOn e)) h = behind (contact x z d) (chainFrom T goal b most z e) (h z e)
 
 -- A chain has at most n−1 contacts.
-chain-fits : (T : List ℕ) (u v first last : ℕ) → size (chainOf T u v first last) ≤ animals T - 1
-unfolding chainOf
-chain-fits T u v first last = arriving (earliestArrival (cellsOf T u v) first)
+chain-small : (T : List ℕ) (u v first last : ℕ) → size (chainOf T u v first last) ≤ animals T - 1
+chain-small T u v first last = go (kept-chain T u v first last)
   where
-    fitting : (b d : ℕ) (t : Bool) → size (cond t (chainFrom T v b (animals T - 1) u d) none) ≤ animals T - 1
-    fitting b d true = chain-short T v b (animals T - 1) u d
-    fitting b d false = omega arith
-
-    leaving : (b : ℕ) (o : Option ℕ) → size (withTick o (λ d. cond (fitsWindow (interval d b) first last) (chainFrom T v b (animals T - 1) u d) none)) ≤ animals T - 1
-    leaving b none = omega arith
-    leaving b (some d) = fitting b d (fitsWindow (interval d b) first last)
-
-    arriving : (o : Option ℕ)
-        → size (withTick o (λ b. withTick (latestDeparture (cellsOf T u v) b) (λ d. cond (fitsWindow (interval d b) first last) (chainFrom T v b (animals T - 1) u d) none))) ≤ animals T - 1
-    arriving none = omega arith
-    arriving (some b) = leaving b (latestDeparture (cellsOf T u v) b)
+    go : {o : Option (List Contact)} → KeptChain T u v first last o → size o ≤ animals T - 1
+    go nothing-kept = omega arith
+    go (kept b d f) = chain-short T v b (animals T - 1) u d
 
 chain-kept : (T : List ℕ) (u v first last : ℕ) (B : List ℕ) (r : Refusal) → chainAnswer T u v first last B ≡ ChainRefused r → chainLeaves T u v first last B ≡ B
 unfolding chainAnswer chainLeaves
@@ -341,7 +331,7 @@ chain-room T u v first last B e =
 
 chain-length : (T : List ℕ) (u v first last : ℕ) (B : List ℕ) → length (chainLeaves T u v first last B) ≡ length B
 unfolding chainLeaves
-chain-length T u v first last B = go (chainRefusal T u v first last B) (chainOf T u v first last) (chain-room T u v first last B) (chain-fits T u v first last)
+chain-length T u v first last B = go (chainRefusal T u v first last B) (chainOf T u v first last) (chain-room T u v first last B) (chain-small T u v first last)
   where
     go : (o : Option Refusal) (c : Option (List Contact)) → (o ≡ none → animals T - 1 ≤ length B) → size c ≤ animals T - 1 → length (unless o (chainWords c B) B) ≡ length B
     go none none h k = refl

@@ -66,14 +66,14 @@ module _ {Q R : Questions} {n τ δ : ℕ} {S : Contacts} {T : List ℕ} (f : Fr
   unfolding latestAnswer
   latest-told u v last p h k = interval-told (momentRefusal T u v last) _ (moment-asked (valid-fresh f) u v last p h k)
 
-  same-count : (u first last : ℕ) → u < n → IsWindow τ δ first last → Q .reached-count T u first last ≡ R .reached-count T u first last
+  same-count : (u first last : ℕ) → u < n → IsWindow τ first last → Q .reached-count T u first last ≡ R .reached-count T u first last
   same-count u first last h w =
       let c = a .reached-count u first last h w in
       let d = b .reached-count u first last h w in
       let e = sorted-unique _<_ (λ i l. omega arith) (λ i j k l m. omega arith) (c .0) (d .0) (c .1) (d .1) (λ i. (λ m. d .2 i .1 (c .2 i .0 m), λ m. c .2 i .1 (d .2 i .0 m))) in
       c .3 ∙ ap length e ∙ sym (d .3)
 
-  same-chain : (u v first last : ℕ) → IsPair n u v → IsWindow τ δ first last → (B : List ℕ) → n ≤ length B + 1
+  same-chain : (u v first last : ℕ) → IsPair n u v → IsWindow τ first last → (B : List ℕ) → n ≤ length B + 1
       → (Q .chain T u v first last B ≡ R .chain T u v first last B) × (Q .chain-leaves T u v first last B ≡ R .chain-leaves T u v first last B)
   same-chain u v first last p w B h = go (told (Q .reach T u v first last) (a .reach-yes u v first last p w) (a .reach-no u v first last p w))
     where

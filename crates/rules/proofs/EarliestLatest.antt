@@ -23,8 +23,9 @@ use Rattle.rules.specs.EarliestLatest.{Earliest, Latest, NoneDeparts, No
 use Rattle.rules.specs.StoredAnswers.{StandsIn, StoredAnswersOf, BothTold, StoredAnswers}
 use Rattle.rules.specs.Fresh.{Fresh}
 use Rattle.rules.proofs.Sound.{table-sizes, passes-good}
-use Rattle.rules.proofs.Asked.{at-iff, nothing-iff, ValidOf, valid-fresh, moment-asked, pair-behind}
-use Rattle.rules.proofs.Answered.{covered-iff, stands-iff}
+use Rattle.rules.proofs.Asked.{at-iff, nothing-iff, ValidOf, valid-itself, valid-fresh, moment-asked, pair-behind}
+use Rattle.rules.proofs.ChainHeld.{chain-fits}
+use Rattle.rules.proofs.Answered.{reaches-stored, reach-yes-iff, reach-no-iff, covered-iff, stands-iff}
 
 -- One equivalence after another.
 pub then-iff : {A B C : Type 0} → A ↔ B → B ↔ C → A ↔ C
@@ -105,6 +106,8 @@ module _ {n τ δ : ℕ} {T : List ℕ} (g : ValidOf n τ δ T) (u v : ℕ) (p :
 stored-answered : (T : List ℕ) → ValidTable T → (u v : ℕ) → IsPair (animals T) u v → StoredAnswersOf T u v
 stored-answered T q u v p =
     record {
+      reach-yes = λ first last w. reach-yes-iff g u v first last p w (reaches-stored T u v first last);
+      reach-no = λ first last w. reach-no-iff g u v first last p w (reaches-stored T u v first last);
       earliest-at = λ t h k e. then-iff (earliest-told g u v p t h k e) (earliest-stored T u v up t (interval (e .departure) (e .arrival)));
       earliest-none = λ t h k. earliest-untold g u v p t h k;
       latest-at = λ t h k e. then-iff (latest-told g u v p t h k e) (latest-stored T u v up t (interval (e .departure) (e .arrival)));
@@ -112,7 +115,7 @@ stored-answered T q u v p =
     }
   where
     g : ValidOf (animals T) (ticks T) (carry T) T
-    g = record { valid = q; animals-are = refl; ticks-are = refl; carry-is = refl }
+    g = valid-itself T q
 
     up : Rising (cellsOf T u v)
     up = pair-rises g u v p
@@ -145,6 +148,7 @@ unfolding earliestAnswer latestAnswer
 stored-answers =
     record {
       answers = stored-answered;
+      chain-fits = chain-fits;
       earliest-told = λ T u v first. answered-told T u v first (earliest-arriving first (cellsOf T u v)) (momentRefusal T u v first) (λ ok. ok);
       latest-told = λ T u v last. answered-told T u v last (latest-departing last (cellsOf T u v)) (momentRefusal T u v last) (λ ok. ok);
     }

@@ -11,7 +11,7 @@ use Rattle.rules.specs.Opening.{openRefusal, openLeaves}
 use Rattle.rules.specs.Adding.{stands, sameCell, cellsChanged, addRefusal, addedCells, holds, addAnswer, addLeaves}
 use Rattle.rules.specs.Questions.{reaches, reachRefusal, reachAnswer, momentRefusal, earliestAnswer, latestAnswer, connects, connectedRefusal, connectedAnswer, isReached, setWord, setWords, reachedRefusal, reachedAnswer, reachedCount, reachedLeaves}
 use Rattle.rules.specs.Chains.{departureWith, leads, lowest, chainFrom, chainOf, chainRefusal, chainAnswer, chainLeaves}
-use Rattle.rules.specs.Claims.{heldWord, formJourney, spells, claimedAnswer}
+use Rattle.rules.specs.Claims.{heldWord, goesOn, formJourney, claimedAnswer}
 use Rattle.rules.specs.CallLists.{run}
 use Rattle.rules.specs.Examples.{Given, gives, Row, ExampleTable, exampleTable, AllHold, marked, Marked, worked, Worked}
 use Rattle.rules.proofs.Folds.{map-agree}
@@ -33,7 +33,7 @@ unfolding
     cellsOf cellAt cellOf addedCells Rule.add Rule.departureOf Rule.arrivalOf Rule.enterBoth enter putInOrder withoutContaining hasInside latestDeparture earliestArrival latestDeparting earliestArriving later sooner
     stands holds sameCell cellsChanged sumBelow countBelow reaches reachRefusal reachAnswer momentRefusal earliestAnswer latestAnswer connects connectedRefusal connectedAnswer
     isReached setWord setWords reachedRefusal reachedAnswer reachedCount reachedLeaves departureWith leads lowest chainFrom chainOf chainRefusal chainAnswer chainLeaves
-    heldWord formJourney spells claimedAnswer
+    heldWord goesOn formJourney claimedAnswer
 computed = (refl, refl)
 
 pub marked-hold : Marked

@@ -97,6 +97,16 @@ module _ {n τ δ : ℕ} {C : Cells} {T : List ℕ} (f : Laid n τ δ C T) where
 pub held-legal : (T : List ℕ) → ValidTable T → (k : Contact) → List·Memᴰ k (heldContacts T) → Legal (animals T) (ticks T) k
 held-legal T p k m = laid-held (valid-laid T p) k .0 m .0
 
+-- Such a table holds a contact of its animals exactly when it lists it.
+pub valid-holds : (T : List ℕ) → ValidTable T → (k : Contact) → k .from < animals T → k .to < animals T → (Adding.holds T k ≡ true) ↔ List·Memᴰ k (heldContacts T)
+valid-holds T p k h j = (to, λ m. held-iff T k .0 m .passes)
+  where
+    to : Adding.holds T k ≡ true → List·Memᴰ k (heldContacts T)
+    to e =
+        let f = valid-laid T p in
+        let l = f .formed .cells (k .from) (k .to) .limits (interval (k .tick) (k .tick + carry T)) (laid-holds f k h j .0 e) in
+        held-iff T k .1 (record { from-below = h; to-below = j; from-one = l .departs; to-last = l .in-time; passes = e })
+
 -- ---- on a fresh table
 
 module _ {n τ δ : ℕ} {S : Contacts} {T : List ℕ} (f : Fresh n τ δ S T) where

@@ -1,22 +1,21 @@
--- Where a contact leads, on a fresh table: the candidates of the chain's rule, and the lowest of them.
+-- Where a contact leads, on any table and on a fresh one, where it is the candidates of the chain's rule; and the lowest of them.
 use mathlib.Core.Path.{_≡_, refl, sym, ap, _∙_, subst}
-use mathlib.Core.Logic.{_↔_, _⊎_, inl, inr, ⊎-elim, _≢_}
-use mathlib.Core.Bool.{Bool, true, false, cond, _&&_}
+use mathlib.Core.Logic.{_↔_, _⊎_, ⊎-elim, _≢_}
+use mathlib.Core.Bool.{Bool, true, false, cond}
 use mathlib.Core.Option.{Option, none, some}
 use mathlib.Core.List.{List, [], _∷_, List·Memᴰ, List·Memᴰ·head, List·Memᴰ·tail, List·Memᴰ·cases-cons}
 use Prim.Native.Nat.{ℕ, zero, suc, _+_, _≤_, _<_}
 use native.Mathlib.Nat.{le-refl}
 use native.Mathlib.Omega.{arith}
-use lib.Dec.{leb, eqb}
-use Rattle.journeys.specs.Journey.{Contact, contact, Contacts, Interval, interval, Inside, Journey, single, onward, Minimal}
+use Rattle.journeys.specs.Journey.{contact, Contacts, Interval, interval, Journey, onward, Minimal}
 use Rattle.journeys.specs.Cell.{Cell, Rising}
 use Rattle.journeys.proofs.Tests.{never, untrue, Outcome, holds, fails, outcome, eq-outcome, le-outcome, and-outcome}
 use Rattle.journeys.proofs.Cover.{rising-after, departure-path, arrival-path}
-use Rattle.journeys.proofs.Theorems.{fits-stored}
-use Rattle.rules.specs.Layout.{animals, carry, cellsOf}
+use Rattle.journeys.proofs.Theorems.{inside-stored}
+use Rattle.rules.specs.Layout.{carry, cellsOf}
 use Rattle.rules.specs.Adding as Adding
 use Rattle.rules.specs.Chains.{departureWith, Lead, nowhere, there, leadsOn, leadFrom, leads, Lowest, nobody, animal, orElse, lowest}
-use Rattle.rules.specs.ChainRule.{StillHad, Candidate, LatestLeaving}
+use Rattle.rules.specs.ChainRule.{Candidate, LatestLeaving}
 use Rattle.rules.specs.Fresh.{Fresh}
 use Rattle.rules.proofs.Fresh.{fresh-carry, fresh-cells}
 use Rattle.rules.proofs.Held.{fresh-holds}
@@ -49,6 +48,36 @@ same-arrival (i ∷ c) b d e u (List·Memᴰ·head p) (List·Memᴰ·tail m) = l
 same-arrival (i ∷ c) b d e u (List·Memᴰ·tail m) (List·Memᴰ·head q) = let r = rising-after i c u m in let s = arrival-path q in absurd (omega arith)
 same-arrival (i ∷ c) b d e u (List·Memᴰ·tail m) (List·Memᴰ·tail k) = same-arrival c b d e (u .1) m k
 
+-- ---- where a contact leads, on any table
+
+module _ (T : List ℕ) (δ goal b x d z : ℕ) where
+  -- What a lead to z says: nowhere, since the contact is not held, or arrives at the goal at another tick than b, or meets an animal with no
+  -- interval to take it on; there; or on, by an interval of z's cell.
+  pub data Led : Lead → Type 0 where
+    not-held : Adding.holds T (contact x z d) ≡ false → Led nowhere
+    other-arrival : z ≡ goal → d + δ ≢ b → Led nowhere
+    none-departs : z ≢ goal → ((e : ℕ) → List·Memᴰ (interval e b) (cellsOf T z goal) → d + δ ≤ e → ⊥) → Led nowhere
+    at-goal : Adding.holds T (contact x z d) ≡ true → z ≡ goal → d + δ ≡ b → Led there
+    further : {e : ℕ} → Adding.holds T (contact x z d) ≡ true → z ≢ goal → List·Memᴰ (interval e b) (cellsOf T z goal) → d + δ ≤ e → Led (leadsOn e)
+
+  pub led : carry T ≡ δ → Led (leads T goal b x d z)
+  unfolding leads
+  led c = rw c (go (outcome (Adding.holds T (contact x z d)) (λ e. e) (λ e. e)) (eq-outcome z goal) (eq-outcome (d + δ) b))
+    where
+      Held : Bool → Type 0
+      Held t = Adding.holds T (contact x z d) ≡ t
+
+      further-on : Held true → z ≢ goal → {o : Option ℕ} → Departing (d + δ) b (cellsOf T z goal) o → Led (leadFrom o)
+      further-on s k (found m h) = further s k m h
+      further-on s k (missing g) = none-departs k g
+
+      go : {h g a : Bool} → Outcome (Held true) (Held false) h → Outcome (z ≡ goal) (z ≢ goal) g → Outcome (d + δ ≡ b) (d + δ ≢ b) a
+          → Led (cond h (cond g (cond a there nowhere) (leadFrom (departureWith (d + δ) b (cellsOf T z goal)))) nowhere)
+      go (fails s) o p = not-held s
+      go (holds s) (holds e) (holds q) = at-goal s e q
+      go (holds s) (holds e) (fails q) = other-arrival e q
+      go (holds s) (fails k) p = further-on s k (departing (d + δ) b (cellsOf T z goal))
+
 -- ---- on a fresh table
 
 module _ {n τ δ : ℕ} {S : Contacts} {T : List ℕ} (f : Fresh n τ δ S T) (goal b x d : ℕ) (hg : goal < n) (hx : x < n) (minimal : Minimal S δ x goal (interval d b)) where
@@ -60,7 +89,7 @@ module _ {n τ δ : ℕ} {S : Contacts} {T : List ℕ} (f : Fresh n τ δ S T) (
     -- So the cell to the goal has an interval with arrival b wherever a journey leaves no later.
     onward-stored : (p : ℕ) → d + δ ≤ p → Journey S δ z goal (interval p b) → (e : ℕ) × List·Memᴰ (interval e b) (cellsOf T z goal) × (p ≤ e)
     onward-stored p h j =
-        let w = fits-stored δ S (f .cells) (f .minimal) z goal p b other .0 (interval p b, j, (le-refl p, le-refl b)) in
+        let w = inside-stored δ S (f .cells) (f .minimal) z goal p b other .0 (interval p b, j, (le-refl p, le-refl b)) in
         let i = w .0 in
         let m = f .minimal .cells z goal other .exact i .0 (w .1) in
         let e = arrives-then i (m .journey) (omega (arith, w .2)) (w .2 .1) in
@@ -88,20 +117,18 @@ module _ {n τ δ : ℕ} {S : Contacts} {T : List ℕ} (f : Fresh n τ δ S T) (
     going : {e : ℕ} → S (contact x z d) → z ≢ goal → LatestLeaving S δ goal b z (d + δ) e → Minimal S δ z goal (interval e b) → LeadsTo z (leadsOn e)
 
   pub leads-to : (z : ℕ) → z < n → LeadsTo z (leads T goal b x d z)
-  unfolding leads
-  leads-to z hz = rw (fresh-carry f) (go (outcome (Adding.holds T (contact x z d)) (fresh-holds f (contact x z d) hx hz .0) (λ e s. untrue (sym e ∙ fresh-holds f (contact x z d) hx hz .1 s))) (eq-outcome z goal) (eq-outcome (d + δ) b))
+  leads-to z hz = go (led T δ goal b x d z (fresh-carry f))
     where
-      further-on : S (contact x z d) → z ≢ goal → {o : Option ℕ} → Departing (d + δ) b (cellsOf T z goal) o → LeadsTo z (leadFrom o)
-      further-on s k (found {d = e} m h) = going s k (stored-latest z hz s k e m h) (stored-minimal z hz s k e m)
-      further-on s k (missing g) =
-          blocked (λ c. ⊎-elim (λ h. k (h .0)) (λ h. (let o = h .1 in let w = onward-stored z hz s k (o .departure) (o .leaves) (o .journey) in g (w .0) (w .1) (omega (arith, w .2, o .leaves)))) (c .had))
+      held-iff : (Adding.holds T (contact x z d) ≡ true) ↔ S (contact x z d)
+      held-iff = fresh-holds f (contact x z d) hx hz
 
-      go : {h g a : Bool} → Outcome (S (contact x z d)) (¬ S (contact x z d)) h → Outcome (z ≡ goal) (z ≢ goal) g → Outcome (d + δ ≡ b) (d + δ ≢ b) a
-          → LeadsTo z (cond h (cond g (cond a there nowhere) (leadFrom (departureWith (d + δ) b (cellsOf T z goal)))) nowhere)
-      go (fails s) o p = blocked (λ c. s (c .contact-held))
-      go (holds s) (holds e) (holds q) = arrived s e q
-      go (holds s) (holds e) (fails q) = blocked (λ c. ⊎-elim (λ h. q (h .1)) (λ h. h .0 e) (c .had))
-      go (holds s) (fails k) p = further-on s k (departing (d + δ) b (cellsOf T z goal))
+      go : {l : Lead} → Led T δ goal b x d z l → LeadsTo z l
+      go (not-held e) = blocked (λ c. untrue (sym e ∙ held-iff .1 (c .contact-held)))
+      go (other-arrival g q) = blocked (λ c. ⊎-elim (λ h. q (h .1)) (λ h. h .0 g) (c .had))
+      go (none-departs k g) =
+          blocked (λ c. ⊎-elim (λ h. k (h .0)) (λ h. (let o = h .1 in let w = onward-stored z hz (c .contact-held) k (o .departure) (o .leaves) (o .journey) in g (w .0) (w .1) (omega (arith, w .2, o .leaves)))) (c .had))
+      go (at-goal s g a) = arrived (held-iff .0 s) g a
+      go (further {e = e} s k m h) = going (held-iff .0 s) k (stored-latest z hz (held-iff .0 s) k e m h) (stored-minimal z hz (held-iff .0 s) k e m)
 
 -- ---- the lowest
 

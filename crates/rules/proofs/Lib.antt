@@ -9,8 +9,10 @@ pub mod Counted
 pub mod Laid
 pub mod Fresh
 pub mod Reading
+pub mod KeptChain
 pub mod Demand1
 pub mod Bits
+pub mod Windows
 pub mod Asked
 pub mod Answered
 pub mod EarliestLatest
@@ -33,6 +35,8 @@ pub mod Distinct
 pub mod CountedCalls
 pub mod Leads
 pub mod Chains
+pub mod ChainHeld
+pub mod WindowChains
 pub mod ChainShown
 pub mod Demand2
 pub mod DeterminedAnswers

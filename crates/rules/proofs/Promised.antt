@@ -9,6 +9,7 @@ use Rattle.rules.proofs.AnyOrder.{any-order}
 use Rattle.rules.proofs.Joining.{join-rule}
 use Rattle.rules.proofs.Stays.{stay-rule}
 use Rattle.rules.proofs.TableCalls.{table-calls}
+use Rattle.rules.proofs.Windows.{window-rule}
 use Rattle.rules.proofs.ListRule.{list-rule, list-examples}
 use Rattle.rules.proofs.EarliestLatest.{stored-answers}
 use Rattle.rules.proofs.Claims.{claims-judged}
@@ -36,6 +37,7 @@ promised =
       join-rule = join-rule;
       stay-rule = stay-rule;
       table-calls = table-calls;
+      window-rule = window-rule;
       list-rule = list-rule;
       stored-answers = stored-answers;
       claims-judged = claims-judged;

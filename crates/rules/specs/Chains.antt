@@ -81,13 +81,14 @@ withTick none g = none
 withTick (some t) g = g t
 
 -- Among the cell's intervals that fit the window the earliest arrival b is kept, then the latest departure d; what there is for them.
-abbrev pub ofKept : Cell → ℕ → ℕ → (ℕ → ℕ → Option (List Contact)) → Option (List Contact)
-ofKept c first last g =
-    withTick (earliestArrival c first) (λ b. withTick (latestDeparture c b) (λ d. cond (fitsWindow (interval d b) first last) (g b d) none))
+-- The carry time stands first.
+abbrev pub ofKept : ℕ → Cell → ℕ → ℕ → (ℕ → ℕ → Option (List Contact)) → Option (List Contact)
+ofKept δ c first last g =
+    withTick (earliestArrival c first) (λ b. withTick (latestDeparture c b) (λ d. cond (fitsWindow δ (interval d b) first last) (g b d) none))
 
 -- The chain of the interval kept, from animal to animal. It never has more than n−1 contacts.
 unfoldable pub chainOf : List ℕ → ℕ → ℕ → ℕ → ℕ → Option (List Contact)
-chainOf T u v first last = ofKept (cellsOf T u v) first last (λ b d. chainFrom T v b (animals T - 1) u d)
+chainOf T u v first last = ofKept (carry T) (cellsOf T u v) first last (λ b d. chainFrom T v b (animals T - 1) u d)
 
 -- 10 when the buffer is shorter than n−1 words, before the question whether there is a journey.
 unfoldable pub chainRefusal : List ℕ → ℕ → ℕ → ℕ → ℕ → List ℕ → Option Refusal

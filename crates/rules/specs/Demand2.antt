@@ -80,8 +80,8 @@ BitSet words i = getD words (i / 32) 0 / 2 ^ (i % 32) % 2 ≡ 1
 module _ (Q : Questions) (n τ δ : ℕ) (S : Contacts) (T : List ℕ) where
   pub record AnsweredOn : Type 0 where
     -- "A question is answered yes when a journey fits its window and no when none does."
-    pub reach-yes : (u v first last : ℕ) → IsPair n u v → IsWindow τ δ first last → (Q .reach T u v first last ≡ Yes) ↔ Fits S δ u v first last
-    pub reach-no : (u v first last : ℕ) → IsPair n u v → IsWindow τ δ first last → (Q .reach T u v first last ≡ No) ↔ (¬ Fits S δ u v first last)
+    pub reach-yes : (u v first last : ℕ) → IsPair n u v → IsWindow τ first last → (Q .reach T u v first last ≡ Yes) ↔ Fits S δ u v first last
+    pub reach-no : (u v first last : ℕ) → IsPair n u v → IsWindow τ first last → (Q .reach T u v first last ≡ No) ↔ (¬ Fits S δ u v first last)
     -- Earliest arrival from a first tick on: the answer is the minimal interval of the pair that leaves at first or later and than which no
     -- journey leaving at first or later is there sooner; it is none exactly when no journey leaves then.
     pub earliest-at : (u v first : ℕ) → IsPair n u v → 1 ≤ first → first ≤ τ + δ
@@ -93,22 +93,22 @@ module _ (Q : Questions) (n τ δ : ℕ) (S : Contacts) (T : List ℕ) where
         → (e : Ends) → (Q .latest T u v last ≡ At e) ↔ Latest (Minimal S δ u v) (Journey S δ u v) last (interval (e .departure) (e .arrival))
     pub latest-none : (u v last : ℕ) → IsPair n u v → 1 ≤ last → last ≤ τ + δ → (Q .latest T u v last ≡ Nothing) ↔ NoneArrives (Journey S δ u v) last
     -- Connected: yes exactly when each animal reaches each other one in the window.
-    pub connected-yes : (first last : ℕ) → IsWindow τ δ first last → (Q .connected T first last ≡ Yes) ↔ AllFit S δ n first last
-    pub connected-no : (first last : ℕ) → IsWindow τ δ first last → (Q .connected T first last ≡ No) ↔ (¬ AllFit S δ n first last)
+    pub connected-yes : (first last : ℕ) → IsWindow τ first last → (Q .connected T first last ≡ Yes) ↔ AllFit S δ n first last
+    pub connected-no : (first last : ℕ) → IsWindow τ first last → (Q .connected T first last ≡ No) ↔ (¬ AllFit S δ n first last)
     -- Reached from u: the bits of the set record, and its count.
-    pub reached-found : (u first last : ℕ) → u < n → IsWindow τ δ first last → Q .reached T u first last ≡ Found
-    pub reached-bit : (u first last : ℕ) → u < n → IsWindow τ δ first last
+    pub reached-found : (u first last : ℕ) → u < n → IsWindow τ first last → Q .reached T u first last ≡ Found
+    pub reached-bit : (u first last : ℕ) → u < n → IsWindow τ first last
         → (i : ℕ) → i < maxAnimals → BitSet (Q .reached-words T u first last) i ↔ ReachedFrom S δ n u first last i
-    pub reached-count : (u first last : ℕ) → u < n → IsWindow τ δ first last
+    pub reached-count : (u first last : ℕ) → u < n → IsWindow τ first last
         → (l : List ℕ) × Sorted _<_ l × ((i : ℕ) → List·Memᴰ i l ↔ ReachedFrom S δ n u first last i) × (Q .reached-count T u first last ≡ length l)
     -- "The chain shown for a yes is the one that document 01's rule names": a chain is named exactly when a journey fits; its
     -- number of contacts is the answer, and its words stand at the buffer's start.
     pub chain-named : (u v first last : ℕ) → IsPair n u v → Fits S δ u v first last ↔ ((l : List Contact) × NamedChain S δ u v first last l)
-    pub chain-shown : (u v first last : ℕ) → IsPair n u v → IsWindow τ δ first last → (B : List ℕ) → n ≤ length B + 1
+    pub chain-shown : (u v first last : ℕ) → IsPair n u v → IsWindow τ first last → (B : List ℕ) → n ≤ length B + 1
         → (l : List Contact) → NamedChain S δ u v first last l
         → (Q .chain T u v first last B ≡ Chain (length l)) × (Q .chain-leaves T u v first last B ≡ map contactWord l ++ drop (length l) B)
     -- Where no journey fits, the answer is "no journey" and the buffer keeps its words.
-    pub chain-none : (u v first last : ℕ) → IsPair n u v → IsWindow τ δ first last → (B : List ℕ) → n ≤ length B + 1
+    pub chain-none : (u v first last : ℕ) → IsPair n u v → IsWindow τ first last → (B : List ℕ) → n ≤ length B + 1
         → (¬ Fits S δ u v first last) → (Q .chain T u v first last B ≡ NoJourney) × (Q .chain-leaves T u v first last B ≡ B)
 
 pub record Demand2 (E : Engine) (Q : Questions) : Type 1 where

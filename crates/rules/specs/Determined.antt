@@ -44,15 +44,15 @@ Determined = (E F : Engine) → Demand3 E → Demand3 F → Agree E F
 
 -- Two sets of questions agree on a table of n animals, τ ticks and carry time δ.
 pub record AgreeOn (Q R : Questions) (n τ δ : ℕ) (T : List ℕ) : Type 0 where
-  pub reach : (u v first last : ℕ) → IsPair n u v → IsWindow τ δ first last → Q .reach T u v first last ≡ R .reach T u v first last
+  pub reach : (u v first last : ℕ) → IsPair n u v → IsWindow τ first last → Q .reach T u v first last ≡ R .reach T u v first last
   pub earliest : (u v first : ℕ) → IsPair n u v → 1 ≤ first → first ≤ τ + δ → Q .earliest T u v first ≡ R .earliest T u v first
   pub latest : (u v last : ℕ) → IsPair n u v → 1 ≤ last → last ≤ τ + δ → Q .latest T u v last ≡ R .latest T u v last
-  pub connected : (first last : ℕ) → IsWindow τ δ first last → Q .connected T first last ≡ R .connected T first last
-  pub reached : (u first last : ℕ) → u < n → IsWindow τ δ first last → Q .reached T u first last ≡ R .reached T u first last
-  pub reached-bits : (u first last : ℕ) → u < n → IsWindow τ δ first last
+  pub connected : (first last : ℕ) → IsWindow τ first last → Q .connected T first last ≡ R .connected T first last
+  pub reached : (u first last : ℕ) → u < n → IsWindow τ first last → Q .reached T u first last ≡ R .reached T u first last
+  pub reached-bits : (u first last : ℕ) → u < n → IsWindow τ first last
       → (i : ℕ) → i < maxAnimals → BitSet (Q .reached-words T u first last) i ↔ BitSet (R .reached-words T u first last) i
-  pub reached-count : (u first last : ℕ) → u < n → IsWindow τ δ first last → Q .reached-count T u first last ≡ R .reached-count T u first last
-  pub chain : (u v first last : ℕ) → IsPair n u v → IsWindow τ δ first last → (B : List ℕ) → n ≤ length B + 1
+  pub reached-count : (u first last : ℕ) → u < n → IsWindow τ first last → Q .reached-count T u first last ≡ R .reached-count T u first last
+  pub chain : (u v first last : ℕ) → IsPair n u v → IsWindow τ first last → (B : List ℕ) → n ≤ length B + 1
       → (Q .chain T u v first last B ≡ R .chain T u v first last B) × (Q .chain-leaves T u v first last B ≡ R .chain-leaves T u v first last B)
 
 pub record AgreeWith (E F : Engine) (Q R : Questions) : Type 1 where

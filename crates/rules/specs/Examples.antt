@@ -84,7 +84,7 @@ AllHold l = (s : ExampleTable) → List·Memᴰ s l → (r : Row) → List·Mem�
 abbrev session : List Contact
 session = contact 0 1 1 ∷ contact 0 1 2 ∷ contact 1 3 4 ∷ []
 
--- P1 to P9.
+-- P1 to P9, each window as document 02, Five, restates it.
 abbrev pub marked : List ExampleTable
 marked =
     record {
@@ -93,16 +93,16 @@ marked =
       carry = 1;
       contacts = session;
       rows =
-          is (reach 0 3 1 5) (asked Yes)
-          ∷ is (reach 0 3 2 5) (asked Yes)
-          ∷ is (reach 0 3 1 4) (asked No)
-          ∷ is (reach 0 3 3 7) (asked No)
-          ∷ is (reach 3 0 1 7) (asked No)
+          is (reach 0 3 1 4) (asked Yes)
+          ∷ is (reach 0 3 2 4) (asked Yes)
+          ∷ is (reach 0 3 1 3) (asked No)
+          ∷ is (reach 0 3 3 6) (asked No)
+          ∷ is (reach 3 0 1 6) (asked No)
           ∷ is (earliest 0 3 2) (found (At (record { departure = 2; arrival = 5 })))
           ∷ is (earliest 0 3 3) (found Nothing)
           ∷ is (latest 0 3 5) (found (At (record { departure = 2; arrival = 5 })))
           ∷ is (latest 0 3 4) (found Nothing)
-          ∷ is (chain 0 3 1 7 (91 ∷ 92 ∷ 93 ∷ 94 ∷ [])) (chained (Chain 2) (contactWord (contact 0 1 2) ∷ contactWord (contact 1 3 4) ∷ 93 ∷ 94 ∷ []))
+          ∷ is (chain 0 3 1 6 (91 ∷ 92 ∷ 93 ∷ 94 ∷ [])) (chained (Chain 2) (contactWord (contact 0 1 2) ∷ contactWord (contact 1 3 4) ∷ 93 ∷ 94 ∷ []))
           ∷ [];
     }
     ∷ record { animals = 4; ticks = 6; carry = 2; contacts = session; rows = is (cell 0 3) (intervals (interval 2 6 ∷ [])) ∷ [] }
@@ -115,7 +115,7 @@ marked =
       rows =
           is (cell 0 3) (intervals (interval 1 3 ∷ []))
           ∷ is (cell 0 4) (intervals (interval 1 7 ∷ []))
-          ∷ is (chain 0 4 1 7 (91 ∷ 92 ∷ 93 ∷ 94 ∷ [])) (chained (Chain 3) (contactWord (contact 0 1 1) ∷ contactWord (contact 1 3 4) ∷ contactWord (contact 3 4 6) ∷ 94 ∷ []))
+          ∷ is (chain 0 4 1 6 (91 ∷ 92 ∷ 93 ∷ 94 ∷ [])) (chained (Chain 3) (contactWord (contact 0 1 1) ∷ contactWord (contact 1 3 4) ∷ contactWord (contact 3 4 6) ∷ 94 ∷ []))
           ∷ [];
     }
     ∷ []
@@ -123,8 +123,12 @@ marked =
 abbrev pub Marked : Type 0
 Marked = AllHold marked
 
--- On the session's table: connected, reached and claimed, the limits of ticks and windows, buffers too short; then tables that are connected,
--- one of them of a single animal.
+-- The two contacts of the chain from 0 to 3 on the session's table.
+abbrev fromSecond : List ℕ
+fromSecond = contactWord (contact 0 1 2) ∷ contactWord (contact 1 3 4) ∷ []
+
+-- On the session's table: connected, reached and claimed, the limits of ticks and windows, buffers too short; the same contacts with carry
+-- time 2; then tables that are connected, one of them of a single animal.
 abbrev pub worked : List ExampleTable
 worked =
     record {
@@ -133,30 +137,65 @@ worked =
       carry = 1;
       contacts = session;
       rows =
-          is (connected 1 7) (asked No)
-          ∷ is (connected 0 7) (asked (AskRefused TickOutOfRange))
-          ∷ is (reached 0 1 7 (90 ∷ 91 ∷ 92 ∷ 93 ∷ 94 ∷ 95 ∷ 96 ∷ 97 ∷ 98 ∷ [])) (set Found 2 (10 ∷ 0 ∷ 0 ∷ 0 ∷ 0 ∷ 0 ∷ 0 ∷ 0 ∷ 98 ∷ []))
-          ∷ is (reached 0 1 4 (90 ∷ 91 ∷ [])) (set Found 1 (2 ∷ 0 ∷ []))
-          ∷ is (reached 3 1 7 (90 ∷ [])) (set Found 0 (0 ∷ []))
-          ∷ is (reached 4 1 7 (90 ∷ 91 ∷ [])) (set (SetRefused NoSuchAnimal) 0 (90 ∷ 91 ∷ []))
-          ∷ is (claimed 0 3 1 7 (contactWord (contact 0 1 2) ∷ contactWord (contact 1 3 4) ∷ [])) (asked Yes)
-          ∷ is (claimed 0 3 1 7 (contactWord (contact 0 1 1) ∷ contactWord (contact 1 3 4) ∷ [])) (asked Yes)
-          ∷ is (claimed 0 3 2 7 (contactWord (contact 0 1 1) ∷ contactWord (contact 1 3 4) ∷ [])) (asked No)
-          ∷ is (claimed 0 3 1 4 (contactWord (contact 0 1 2) ∷ contactWord (contact 1 3 4) ∷ [])) (asked No)
-          ∷ is (claimed 0 3 1 7 (contactWord (contact 0 1 3) ∷ contactWord (contact 1 3 4) ∷ [])) (asked No)
-          ∷ is (claimed 0 3 1 7 (contactWord (contact 1 3 4) ∷ contactWord (contact 0 1 2) ∷ [])) (asked No)
-          ∷ is (claimed 0 3 1 7 []) (asked No)
-          ∷ is (claimed 0 0 1 7 []) (asked (AskRefused SameAnimal))
-          ∷ is (reach 0 3 1 7) (asked Yes)
-          ∷ is (reach 0 3 1 8) (asked (AskRefused TickOutOfRange))
+          is (connected 1 6) (asked No)
+          ∷ is (connected 0 6) (asked (AskRefused TickOutOfRange))
+          ∷ is (connected 1 7) (asked (AskRefused TickOutOfRange))
+          ∷ is (reached 0 1 6 (90 ∷ 91 ∷ 92 ∷ 93 ∷ 94 ∷ 95 ∷ 96 ∷ 97 ∷ 98 ∷ [])) (set Found 2 (10 ∷ 0 ∷ 0 ∷ 0 ∷ 0 ∷ 0 ∷ 0 ∷ 0 ∷ 98 ∷ []))
+          ∷ is (reached 0 1 4 (90 ∷ 91 ∷ [])) (set Found 2 (10 ∷ 0 ∷ []))
+          ∷ is (reached 0 1 3 (90 ∷ 91 ∷ [])) (set Found 1 (2 ∷ 0 ∷ []))
+          ∷ is (reached 3 1 6 (90 ∷ [])) (set Found 0 (0 ∷ []))
+          ∷ is (reached 4 1 6 (90 ∷ 91 ∷ [])) (set (SetRefused NoSuchAnimal) 0 (90 ∷ 91 ∷ []))
+          ∷ is (reached 0 1 7 (90 ∷ 91 ∷ [])) (set (SetRefused TickOutOfRange) 0 (90 ∷ 91 ∷ []))
+          ∷ is (claimed 0 3 1 6 fromSecond) (asked Yes)
+          ∷ is (claimed 0 3 2 4 fromSecond) (asked Yes)
+          ∷ is (claimed 0 3 1 3 fromSecond) (asked No)
+          ∷ is (claimed 0 3 3 6 fromSecond) (asked No)
+          ∷ is (claimed 0 3 1 7 fromSecond) (asked (AskRefused TickOutOfRange))
+          ∷ is (claimed 0 3 1 6 (contactWord (contact 0 1 1) ∷ contactWord (contact 1 3 4) ∷ [])) (asked Yes)
+          ∷ is (claimed 0 3 2 6 (contactWord (contact 0 1 1) ∷ contactWord (contact 1 3 4) ∷ [])) (asked No)
+          ∷ is (claimed 0 3 1 6 (contactWord (contact 0 1 3) ∷ contactWord (contact 1 3 4) ∷ [])) (asked No)
+          ∷ is (claimed 0 3 1 6 (contactWord (contact 1 3 4) ∷ contactWord (contact 0 1 2) ∷ [])) (asked No)
+          ∷ is (claimed 0 3 1 6 []) (asked No)
+          ∷ is (claimed 0 0 1 6 []) (asked (AskRefused SameAnimal))
+          ∷ is (reach 0 3 1 6) (asked Yes)
+          ∷ is (reach 0 3 6 6) (asked No)
+          ∷ is (reach 0 3 1 7) (asked (AskRefused TickOutOfRange))
+          ∷ is (reach 0 3 7 7) (asked (AskRefused TickOutOfRange))
+          ∷ is (reach 0 3 0 4) (asked (AskRefused TickOutOfRange))
           ∷ is (reach 0 3 5 2) (asked (AskRefused TickOutOfRange))
+          ∷ is (earliest 0 3 7) (found Nothing)
           ∷ is (earliest 0 3 8) (found (IntervalRefused TickOutOfRange))
+          ∷ is (latest 0 3 7) (found (At (record { departure = 2; arrival = 5 })))
+          ∷ is (latest 0 3 8) (found (IntervalRefused TickOutOfRange))
           ∷ is (latest 0 4 5) (found (IntervalRefused NoSuchAnimal))
-          ∷ is (chain 0 3 3 7 (91 ∷ 92 ∷ 93 ∷ [])) (chained NoJourney (91 ∷ 92 ∷ 93 ∷ []))
-          ∷ is (chain 0 3 1 7 (91 ∷ 92 ∷ [])) (chained (ChainRefused ChainBufferTooShort) (91 ∷ 92 ∷ []))
+          ∷ is (chain 0 3 2 4 (91 ∷ 92 ∷ 93 ∷ [])) (chained (Chain 2) (contactWord (contact 0 1 2) ∷ contactWord (contact 1 3 4) ∷ 93 ∷ []))
+          ∷ is (chain 0 3 1 3 (91 ∷ 92 ∷ 93 ∷ [])) (chained NoJourney (91 ∷ 92 ∷ 93 ∷ []))
+          ∷ is (chain 0 3 3 6 (91 ∷ 92 ∷ 93 ∷ [])) (chained NoJourney (91 ∷ 92 ∷ 93 ∷ []))
+          ∷ is (chain 0 3 1 7 (91 ∷ 92 ∷ 93 ∷ [])) (chained (ChainRefused TickOutOfRange) (91 ∷ 92 ∷ 93 ∷ []))
+          ∷ is (chain 0 3 1 6 (91 ∷ 92 ∷ [])) (chained (ChainRefused ChainBufferTooShort) (91 ∷ 92 ∷ []))
           ∷ is (add 0 1 6) (added (New 1))
           ∷ is (add 0 1 7) (added (AddRefused TickOutOfRange))
           ∷ is (add 0 1 1) (added (Known 0))
+          ∷ [];
+    }
+    ∷ record {
+      animals = 4;
+      ticks = 6;
+      carry = 2;
+      contacts = session;
+      rows =
+          is (reach 0 3 2 4) (asked Yes)
+          ∷ is (reach 0 3 2 3) (asked No)
+          ∷ is (reach 0 3 3 4) (asked No)
+          ∷ is (reach 0 3 1 7) (asked (AskRefused TickOutOfRange))
+          ∷ is (reach 0 3 1 8) (asked (AskRefused TickOutOfRange))
+          ∷ is (claimed 0 3 2 4 fromSecond) (asked Yes)
+          ∷ is (claimed 0 3 2 3 fromSecond) (asked No)
+          ∷ is (claimed 0 3 3 4 fromSecond) (asked No)
+          ∷ is (chain 0 3 2 4 (91 ∷ 92 ∷ 93 ∷ [])) (chained (Chain 2) (contactWord (contact 0 1 2) ∷ contactWord (contact 1 3 4) ∷ 93 ∷ []))
+          ∷ is (latest 0 3 5) (found Nothing)
+          ∷ is (latest 0 3 8) (found (At (record { departure = 2; arrival = 6 })))
+          ∷ is (latest 0 3 9) (found (IntervalRefused TickOutOfRange))
           ∷ [];
     }
     ∷ record {
@@ -164,7 +203,7 @@ worked =
       ticks = 2;
       carry = 1;
       contacts = contact 0 1 1 ∷ contact 1 0 2 ∷ [];
-      rows = is (connected 1 3) (asked Yes) ∷ is (connected 1 2) (asked No) ∷ [];
+      rows = is (connected 1 2) (asked Yes) ∷ is (connected 1 1) (asked No) ∷ is (connected 2 2) (asked No) ∷ [];
     }
     ∷ record {
       animals = 1;
@@ -172,10 +211,10 @@ worked =
       carry = 1;
       contacts = [];
       rows =
-          is (connected 1 3) (asked Yes)
-          ∷ is (reached 0 1 3 []) (set Found 0 [])
-          ∷ is (reach 0 0 1 3) (asked (AskRefused SameAnimal))
-          ∷ is (reach 0 1 1 3) (asked (AskRefused NoSuchAnimal))
+          is (connected 1 2) (asked Yes)
+          ∷ is (reached 0 1 2 []) (set Found 0 [])
+          ∷ is (reach 0 0 1 2) (asked (AskRefused SameAnimal))
+          ∷ is (reach 0 1 1 2) (asked (AskRefused NoSuchAnimal))
           ∷ is (add 1 1 1) (added (AddRefused NoSuchAnimal))
           ∷ [];
     }

@@ -18,6 +18,7 @@ pub mod TableCalls
 pub mod Reading
 pub mod Counting
 pub mod Windows
+pub mod WindowRule
 pub mod Questions
 pub mod EarliestLatest
 pub mod StoredAnswers

@@ -11,6 +11,7 @@ use Rattle.rules.specs.JoinRule.{JoinRule}
 use Rattle.rules.specs.StayRule.{StayRule}
 use Rattle.rules.specs.TableCalls.{TableCalls}
 use Rattle.rules.specs.ListRule.{ListRule, ListExamples}
+use Rattle.rules.specs.WindowRule.{WindowRule}
 use Rattle.rules.specs.StoredAnswers.{StoredAnswers}
 use Rattle.rules.specs.Claims.{ClaimsJudged}
 use Rattle.rules.specs.NamedChains.{NamedChains}
@@ -31,14 +32,15 @@ pub record Promised : Type 1 where
   pub demand2 : Demand2 engine questions
   pub demand3 : Demand3 engine
   -- What documents 01 and 02 say beside them: reading a log, counted adds, contacts added in any order to any table, joining two tables, stays,
-  -- tables built by lists of calls, lists of questions, the earliest arrival and the latest departure on tables that no adds built, claimed chains, the
-  -- chain named, the sheet.
+  -- tables built by lists of calls, windows, lists of questions, reach, the earliest arrival and the latest departure on tables that no adds built,
+  -- claimed chains, the chain named, the sheet.
   pub logs-read : LogsRead
   pub counted-rule : CountedRule
   pub any-order : AnyOrder
   pub join-rule : JoinRule
   pub stay-rule : StayRule
   pub table-calls : TableCalls
+  pub window-rule : WindowRule
   pub list-rule : ListRule
   pub stored-answers : StoredAnswers
   pub claims-judged : ClaimsJudged

@@ -14,10 +14,10 @@ use Rattle.rules.specs.declared.SetAnswer.{SetAnswer}
 use Rattle.rules.specs.declared.SetAnswer.the-variants.{Found, Refused}
 use Rattle.rules.specs.Answers.{ensure, unless, askAnswerOf, intervalAnswerOf}
 use Rattle.rules.specs.Folds.{allBelow, sumBelow, countBelow}
-use Rattle.rules.specs.Layout.{animals, cellsOf}
+use Rattle.rules.specs.Layout.{animals, carry, cellsOf}
 use Rattle.rules.specs.Checks.{ensureTable}
 use Rattle.rules.specs.Adding.{ensurePair}
-use Rattle.rules.specs.Windows.{window, ensureWindow, ensureMoment}
+use Rattle.rules.specs.Windows.{widest, ensureWindow, ensureMoment}
 
 -- ---- one animal
 
@@ -29,7 +29,7 @@ ensureAnimal T u o = ensure (ltb u (animals T)) NoSuchAnimal o
 
 -- A stored interval of the pair fits the window.
 unfoldable pub reaches : List ℕ → ℕ → ℕ → ℕ → ℕ → Bool
-reaches T u v first last = hasInside (window first last) (cellsOf T u v)
+reaches T u v first last = hasInside (widest (carry T) first last) (cellsOf T u v)
 
 unfoldable pub reachRefusal : List ℕ → ℕ → ℕ → ℕ → ℕ → Option Refusal
 reachRefusal T u v first last = ensureTable T (ensurePair T u v (ensureWindow T first last none))

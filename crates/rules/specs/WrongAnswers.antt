@@ -1,5 +1,5 @@
 -- Wrong answers that demand 2 shuts out (document 01, last paragraph: "Reject").
-use Prim.Native.Nat.{ℕ, zero, suc, _-_}
+use Prim.Native.Nat.{ℕ, zero, suc, _+_, _-_}
 use mathlib.Core.Path.{_≡_}
 use mathlib.Core.Bool.{cond}
 use mathlib.Core.Option.{Option, none, some, Option·map}
@@ -7,13 +7,14 @@ use mathlib.Core.List.{List, [], _∷_, map}
 use lib.ListN.{replicate}
 use lib.Dec.{leb, ltb}
 use Rattle.journeys.specs.Journey.{Contact, Interval, interval}
-use Rattle.journeys.specs.Cell.{Cell, later, latestDeparting, earliestArriving}
+use Rattle.journeys.specs.Cell.{Cell, later, latestDeparting, earliestArriving, hasInside}
 use Rattle.rules.specs.declared.AskAnswer.{AskAnswer}
 use Rattle.rules.specs.declared.AskAnswer.the-variants.{Yes, No}
 use Rattle.rules.specs.Answers.{unless, askAnswerOf, intervalAnswerOf}
-use Rattle.rules.specs.Layout.{animals, cellsOf}
+use Rattle.rules.specs.Folds.{within, anyOf}
+use Rattle.rules.specs.Layout.{animals, carry, cellsOf}
 use Rattle.rules.specs.Questions.{reaches, reachRefusal, momentRefusal}
-use Rattle.rules.specs.Chains.{Lead, Lowest, nobody, animal, orElse, leads, follow, ofKept, chainOf, chainRefusal, chainAnswerOf, chainWords}
+use Rattle.rules.specs.Chains.{Lead, Lowest, nobody, animal, orElse, leads, follow, chainFrom, ofKept, chainOf, chainRefusal, chainAnswerOf, chainWords}
 use Rattle.rules.specs.declared.OpenAnswer.the-variants.{Opened}
 use Rattle.rules.specs.Opening.{openAnswer}
 use Rattle.rules.specs.CallLists.{Engine, engine, tableAfter, LegalOf}
@@ -67,6 +68,20 @@ endsLater = withReach (λ T u v first last. askAnswerOf (reachRefusal T u v firs
 abbrev pub beginsLater : Questions
 beginsLater = withReach (λ T u v first last. askAnswerOf (reachRefusal T u v first last) (reaches T u v (suc first) last))
 
+-- A stored interval has to arrive by the last tick of the window.
+abbrev pub arrivesByLast : Questions
+arrivesByLast = withReach (λ T u v first last. askAnswerOf (reachRefusal T u v first last) (hasInside (interval first last) (cellsOf T u v)))
+
+-- Of a stored interval only the first contact has to lie in the window: its departure does.
+abbrev pub firstContactAlone : Questions
+firstContactAlone =
+    withReach (λ T u v first last. askAnswerOf (reachRefusal T u v first last) (anyOf (λ i. within first (i .departure) last) (cellsOf T u v)))
+
+-- Of a stored interval only the last contact has to lie in the window: it leaves the carry time before the arrival.
+abbrev pub lastContactAlone : Questions
+lastContactAlone =
+    withReach (λ T u v first last. askAnswerOf (reachRefusal T u v first last) (anyOf (λ i. within (first + carry T) (i .arrival) (last + carry T)) (cellsOf T u v)))
+
 -- ---- earliest arrival and latest departure
 
 -- "No journey" every time, for the earliest arrival.
@@ -84,6 +99,10 @@ departsAfterFirst = withEarliest (λ c t. earliestArriving c (suc t))
 -- The last tick taken as strictly after the arrival.
 abbrev pub arrivesBeforeLast : Questions
 arrivesBeforeLast = withLatest (λ c t. latestDeparting c (t - 1))
+
+-- An arrival after the last tick, by as much as a carry time of 1.
+abbrev pub arrivesAfterLast : Questions
+arrivesAfterLast = withLatest (λ c t. latestDeparting c (suc t))
 
 -- The first interval of the cell, and its last.
 abbrev firstOfCell : Cell → Interval
@@ -148,6 +167,10 @@ countsNobody = questionsBut none none none (some (λ T u first last. 0)) none no
 abbrev pub neverChained : Questions
 neverChained = withChain (λ T u v first last. none)
 
+-- The interval kept has to arrive by the last tick of the window, as if nothing took time to carry.
+abbrev pub chainArrivesByLast : Questions
+chainArrivesByLast = withChain (λ T u v first last. ofKept 0 (cellsOf T u v) first last (λ b d. chainFrom T v b (animals T - 1) u d))
+
 -- The first animal of the list to which a contact leads.
 unfoldable pub firstOf : List ℕ → (ℕ → Lead) → Lowest
 firstOf [] f = nobody
@@ -164,7 +187,7 @@ chainFromOf zs T goal b (suc most) x d = follow x d (firstOf zs (leads T goal b 
 
 abbrev inOrderOf : (List ℕ → List ℕ) → Questions
 inOrderOf order =
-    withChain (λ T u v first last. ofKept (cellsOf T u v) first last (λ b d. chainFromOf (order T) T v b (animals T - 1) u d))
+    withChain (λ T u v first last. ofKept (carry T) (cellsOf T u v) first last (λ b d. chainFromOf (order T) T v b (animals T - 1) u d))
 
 -- The animals below m, the highest first.
 unfoldable pub downFrom : ℕ → List ℕ
@@ -185,10 +208,14 @@ pub record RejectedAnswers : Type 1 where
   pub always-yes : (E : Engine) → ¬ Demand2 E alwaysYes
   pub ends-later : (E : Engine) → ¬ Demand2 E endsLater
   pub begins-later : (E : Engine) → ¬ Demand2 E beginsLater
+  pub arrives-by-last : (E : Engine) → ¬ Demand2 E arrivesByLast
+  pub first-contact-alone : (E : Engine) → ¬ Demand2 E firstContactAlone
+  pub last-contact-alone : (E : Engine) → ¬ Demand2 E lastContactAlone
   pub never-arrives : (E : Engine) → ¬ Demand2 E neverArrives
   pub never-departs : (E : Engine) → ¬ Demand2 E neverDeparts
   pub departs-after-first : (E : Engine) → ¬ Demand2 E departsAfterFirst
   pub arrives-before-last : (E : Engine) → ¬ Demand2 E arrivesBeforeLast
+  pub arrives-after-last : (E : Engine) → ¬ Demand2 E arrivesAfterLast
   pub other-departure : (E : Engine) → ¬ Demand2 E otherDeparture
   pub later-arrival : (E : Engine) → ¬ Demand2 E laterArrival
   pub other-arrival : (E : Engine) → ¬ Demand2 E otherArrival
@@ -199,6 +226,7 @@ pub record RejectedAnswers : Type 1 where
   pub reaches-nobody : (E : Engine) → ¬ Demand2 E reachesNobody
   pub counts-nobody : (E : Engine) → ¬ Demand2 E countsNobody
   pub never-chained : (E : Engine) → ¬ Demand2 E neverChained
+  pub chain-arrives-by-last : (E : Engine) → ¬ Demand2 E chainArrivesByLast
   pub highest-animal : (E : Engine) → ¬ Demand2 E highestAnimal
   pub loading-order : ¬ ((n τ δ : ℕ) (words : List ℕ) (loaded : List Contact) → openAnswer n τ δ words ≡ Opened
       → AnsweredOn (loadingOrder loaded) n τ δ (LegalOf n τ loaded) (tableAfter engine n τ δ words loaded))

@@ -3,7 +3,7 @@
 use crate::testing::check;
 use crate::testing::contents::Contents;
 use crate::testing::model::{self, Contacts, Journeys};
-use crate::testing::words::{self, Interval, Opening, SET_WORDS};
+use crate::testing::words::{self, Interval, Opening, Window, SET_WORDS};
 use crate::{Added, Answer, Chain, Found, Joined, Opened, Reached, Read, StaysAdded, Written};
 
 /// Opening over these words.
@@ -235,7 +235,7 @@ impl Known {
 }
 
 /// What a table holds, and a legal window.
-type Legal<'a> = (&'a dyn Contents, Interval);
+type Legal<'a> = (&'a dyn Contents, Window);
 
 /// The words of the buffer when these are written to its start.
 fn over(written: &[u32], buffer: &[u32]) -> Vec<u32> {

@@ -2,7 +2,8 @@
 
 use crate::testing::model;
 use crate::testing::random::Random;
-use crate::testing::words::{count_word, Cells, Contact, Interval, Opening, Stay, LAST_PEN};
+use crate::testing::words::{count_word, Cells, Contact, Interval, Opening, Stay};
+use crate::testing::words::{Window, LAST_PEN};
 
 /// A small opening, with a carry time above the ticks now and then.
 pub fn opening(random: &mut Random) -> Opening {
@@ -52,6 +53,42 @@ pub fn other_opening(random: &mut Random, opening: Opening) -> Opening {
     let more = *number == 1 || *number < most && random.once_in(2);
     *number = if more { *number + 1 } else { *number - 1 };
     other
+}
+
+/// Every two numbers from the lowest to the highest, in either order, and each one twice.
+pub fn every_two(lowest: u32, highest: u32) -> impl Iterator<Item = (u32, u32)> {
+    (lowest..=highest).flat_map(move |one| (lowest..=highest).map(move |other| (one, other)))
+}
+
+/// Every window of a table with this opening.
+pub fn windows(opening: Opening) -> Vec<Window> {
+    let in_turn = every_two(1, opening.ticks).filter(|(first, last)| first <= last);
+    in_turn
+        .map(|(first, last)| Window::new(first, last))
+        .collect()
+}
+
+/// Ticks that no window has: those next to its range, those next to the range of a single tick of a question, and such as
+/// come into range when the carry time is added in 32 bits or when only some of their bits are looked at.
+pub fn no_window_ticks(opening: Opening) -> [u32; 9] {
+    let (ticks, end) = (opening.ticks, opening.last_arrival());
+    let below_zero = 0u32.wrapping_sub(opening.carry);
+    [
+        0,
+        ticks + 1,
+        end,
+        end + 1,
+        ticks | 1 << 16,
+        ticks | 1 << 31,
+        below_zero,
+        u32::MAX - 1,
+        u32::MAX,
+    ]
+}
+
+/// The first and the last tick of the window of all ticks, and ticks that no window has.
+pub fn window_edges(opening: Opening) -> Vec<u32> {
+    [&[1, opening.ticks], &no_window_ticks(opening)[..]].concat()
 }
 
 /// A legal contact; there are two animals or more.
@@ -194,6 +231,16 @@ pub fn following_contacts(random: &mut Random, opening: Opening, number: usize) 
     }
     random.shuffle(&mut contacts);
     contacts
+}
+
+/// A few contacts, at most so many, in half of the cases such as follow each other; none where there is one
+/// animal.
+pub fn few_contacts(random: &mut Random, opening: Opening, most: usize) -> Vec<Contact> {
+    if opening.animals > 1 && random.once_in(2) {
+        following_contacts(random, opening, most)
+    } else {
+        log_contacts(random, opening, most)
+    }
 }
 
 /// Cells near a closure: some rows are gone, and some others came in. There are two animals or more.

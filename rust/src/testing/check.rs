@@ -1,7 +1,7 @@
 //! The checks of documents 01 and 02 of open tables, of logs, of stays and of a call's numbers, each with its refusal.
 
 use crate::testing::rule::Stored;
-use crate::testing::words::{self, Cells, Contact, Interval, Opening, Stay, LAST_PEN};
+use crate::testing::words::{self, Cells, Contact, Interval, Opening, Stay, Window, LAST_PEN};
 
 /// What the words of an open table store, or refusal 5 or 6.
 pub fn open_table(table: &[u32]) -> Result<Stored, u32> {
@@ -97,7 +97,7 @@ pub fn animals(opening: Opening, u: u32, v: u32) -> Result<(), u32> {
     }
 }
 
-/// A single tick of a question on a table with this opening, or refusal 9.
+/// The single tick of a question on a table with this opening, one at which a journey can depart or arrive, or refusal 9.
 pub fn tick(opening: Opening, tick: u32) -> Result<(), u32> {
     if (1..=opening.last_arrival()).contains(&tick) {
         Ok(())
@@ -106,13 +106,13 @@ pub fn tick(opening: Opening, tick: u32) -> Result<(), u32> {
     }
 }
 
-/// The window [first, last] on a table with this opening, or refusal 9.
-pub fn window(opening: Opening, first: u32, last: u32) -> Result<Interval, u32> {
-    let ticks = 1..=opening.last_arrival();
+/// The window of two ticks at which contacts can be, on a table with this opening, or refusal 9.
+pub fn window(opening: Opening, first: u32, last: u32) -> Result<Window, u32> {
+    let ticks = 1..=opening.ticks;
     if !ticks.contains(&first) || !ticks.contains(&last) || first > last {
         Err(9)
     } else {
-        Ok(Interval::new(first, last))
+        Ok(Window::new(first, last))
     }
 }
 

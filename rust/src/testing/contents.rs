@@ -1,6 +1,6 @@
 //! What a table holds, as the calls on it ask for it.
 
-use crate::testing::words::{self, Cells, Contact, Interval, Opening};
+use crate::testing::words::{self, Cells, Contact, Interval, Opening, Window};
 use crate::Added;
 
 /// What a table holds: told by its contacts (`model::Journeys`), or by its stored intervals (`rule::Stored`). Animals,
@@ -22,7 +22,7 @@ pub trait Contents {
     fn add_all(&self, contacts: &[Contact]) -> (Cells, u32);
 
     /// Whether a journey from `u` to `v` fits the window.
-    fn reaches(&self, u: u32, v: u32, window: Interval) -> bool;
+    fn reaches(&self, u: u32, v: u32, window: Window) -> bool;
 
     /// Of the journeys from `u` to `v` that depart at or after `first`, the minimal interval with the earliest arrival.
     fn earliest(&self, u: u32, v: u32, first: u32) -> Option<Interval>;
@@ -31,28 +31,28 @@ pub trait Contents {
     fn latest(&self, u: u32, v: u32, last: u32) -> Option<Interval>;
 
     /// The chain from `u` to `v` in the window.
-    fn chain(&self, u: u32, v: u32, window: Interval) -> Option<Vec<Contact>>;
+    fn chain(&self, u: u32, v: u32, window: Window) -> Option<Vec<Contact>>;
 
     /// The animals, without `u`, that are reached from it in the window.
-    fn reached(&self, u: u32, window: Interval) -> Vec<u32> {
+    fn reached(&self, u: u32, window: Window) -> Vec<u32> {
         let others = (0..self.opening().animals).filter(|&v| v != u);
         others.filter(|&v| self.reaches(u, v, window)).collect()
     }
 
     /// Whether each animal reaches each other one in the window.
-    fn connects(&self, window: Interval) -> bool {
+    fn connects(&self, window: Window) -> bool {
         let n = self.opening().animals;
         (0..n).all(|u| (0..n).all(|v| u == v || self.reaches(u, v, window)))
     }
 
-    /// Whether the words are contacts held that form a journey from `u` to `v`, and it fits the window.
-    fn spells(&self, u: u32, v: u32, window: Interval, chain: &[u32]) -> bool {
-        let held = |&word: &u32| words::read_contact(word).filter(|&contact| self.holds(contact));
-        let Some(contacts) = chain.iter().map(held).collect::<Option<Vec<Contact>>>() else {
-            return false;
-        };
-        let ends = |contacts: &[Contact]| (contacts[0].from, contacts[contacts.len() - 1].to);
-        words::journey(self.opening().carry, &contacts)
-            .is_some_and(|taken| ends(&contacts) == (u, v) && taken.fits(window))
+    /// Whether the words are contacts held, each of them in the window, that form a journey from `u` to `v`.
+    fn spells(&self, u: u32, v: u32, window: Window, chain: &[u32]) -> bool {
+        let is_such = |&contact: &Contact| self.holds(contact) && window.has(contact);
+        let read = |&word: &u32| words::read_contact(word).filter(is_such);
+        let contacts: Option<Vec<Contact>> = chain.iter().map(read).collect();
+        contacts.is_some_and(|contacts| {
+            let is_journey = words::journey(self.opening().carry, &contacts).is_some();
+            is_journey && words::ends(&contacts) == (u, v)
+        })
     }
 }

@@ -3,11 +3,12 @@
 
 use crate::testing::calls::accepted;
 use crate::testing::contents::Contents;
-use crate::testing::words::{self, Cells, Contact, Interval, Opening, Stay};
+use crate::testing::words::{self, Cells, Contact, Interval, Opening, Stay, Window};
 use crate::Added;
-use std::cell::OnceCell;
+use std::cell::{OnceCell, RefCell};
 use std::cmp::Reverse;
-use std::collections::BTreeSet;
+use std::collections::{BTreeMap, BTreeSet};
+use std::rc::Rc;
 
 /// A set of contacts in log order.
 pub type Contacts = BTreeSet<Contact>;
@@ -15,7 +16,7 @@ pub type Contacts = BTreeSet<Contact>;
 /// The minimal journey intervals of every ordered pair of different animals, by departure.
 pub fn minimal_intervals(opening: Opening, contacts: &Contacts) -> Cells {
     let earliest = |times: &[bool]| times.iter().position(|&seen| seen).into_iter().collect();
-    let cells = intervals(opening, contacts, earliest);
+    let cells = intervals(opening, contacts.iter(), earliest);
     cells.iter().map(|journeys| minimal(journeys)).collect()
 }
 
@@ -53,6 +54,7 @@ pub struct Journeys {
     contacts: Contacts,
     minimal: Cells,
     all: OnceCell<Cells>,
+    inside: RefCell<BTreeMap<Window, Rc<Cells>>>,
 }
 
 impl Journeys {
@@ -64,6 +66,7 @@ impl Journeys {
             contacts,
             minimal,
             all: OnceCell::new(),
+            inside: RefCell::default(),
         }
     }
 
@@ -79,16 +82,16 @@ impl Journeys {
 
     /// The intervals of all journeys from `u` to another animal `v`, whether another one lies inside them or not.
     fn between(&self, u: u32, v: u32) -> &[Interval] {
-        let every = |times: &[bool]| (0..times.len()).filter(|&time| times[time]).collect();
-        let find = || intervals(self.opening, &self.contacts, every);
+        let find = || intervals(self.opening, self.contacts.iter(), every);
         &self.all.get_or_init(find)[self.opening.pair(u, v)]
     }
 
-    /// The latest departure, at `first` or later, of a journey from `u` that reaches `v` at the arrival.
-    fn latest_to_arrive(&self, u: u32, v: u32, first: u32, arrival: u32) -> Option<u32> {
-        let journeys = self.between(u, v).iter();
-        let arriving = journeys.filter(|i| i.departure >= first && i.arrival == arrival);
-        arriving.map(|i| i.departure).max()
+    /// The intervals of all journeys of those contacts that lie in the window, for every ordered pair of different animals.
+    /// They are searched once for each window.
+    fn inside(&self, window: Window) -> Rc<Cells> {
+        let lying = self.contacts.iter().filter(|&&contact| window.has(contact));
+        let find = || Rc::new(intervals(self.opening, lying, every));
+        Rc::clone(self.inside.borrow_mut().entry(window).or_insert_with(find))
     }
 }
 
@@ -120,14 +123,15 @@ impl Contents for Journeys {
         (minimal_intervals(self.opening, &all), new as u32)
     }
 
-    fn reaches(&self, u: u32, v: u32, window: Interval) -> bool {
-        self.between(u, v).iter().any(|i| i.fits(window))
+    fn reaches(&self, u: u32, v: u32, window: Window) -> bool {
+        !self.inside(window)[self.opening.pair(u, v)].is_empty()
     }
 
     fn earliest(&self, u: u32, v: u32, first: u32) -> Option<Interval> {
-        let departing = self.between(u, v).iter().filter(|i| i.departure >= first);
+        let journeys = self.between(u, v);
+        let departing = journeys.iter().filter(|i| i.departure >= first);
         let arrival = departing.map(|i| i.arrival).min()?;
-        let departure = self.latest_to_arrive(u, v, first, arrival)?;
+        let departure = latest_to_arrive(journeys, first, arrival)?;
         Some(Interval::new(departure, arrival))
     }
 
@@ -140,9 +144,11 @@ impl Contents for Journeys {
         Some(Interval::new(departure, arrival))
     }
 
-    fn chain(&self, u: u32, v: u32, window: Interval) -> Option<Vec<Contact>> {
-        let fitting = self.between(u, v).iter().filter(|i| i.fits(window));
-        let kept = fitting.min_by_key(|i| (i.arrival, Reverse(i.departure)))?;
+    fn chain(&self, u: u32, v: u32, window: Window) -> Option<Vec<Contact>> {
+        let inside = self.inside(window);
+        let fitting = |u, v| &inside[self.opening.pair(u, v)];
+        let by_arrival = |i: &&Interval| (i.arrival, Reverse(i.departure));
+        let kept = fitting(u, v).iter().min_by_key(by_arrival)?;
         let (mut x, mut departure) = (u, kept.departure);
         let mut chain = Vec::new();
         while x != v {
@@ -151,7 +157,7 @@ impl Contents for Journeys {
                 if z == v {
                     (met == kept.arrival).then_some(met)
                 } else {
-                    self.latest_to_arrive(z, v, met, kept.arrival)
+                    latest_to_arrive(fitting(z, v), met, kept.arrival)
                 }
             };
             let contacts = (0..self.opening.animals).map(|z| Contact::new(x, z, departure));
@@ -166,11 +172,23 @@ impl Contents for Journeys {
     }
 }
 
+/// The latest departure, at `first` or later, of the journeys with this arrival.
+fn latest_to_arrive(journeys: &[Interval], first: u32, arrival: u32) -> Option<u32> {
+    let arriving = |i: &&Interval| i.departure >= first && i.arrival == arrival;
+    let departures = journeys.iter().filter(arriving).map(|i| i.departure);
+    departures.max()
+}
+
+/// Every time at which an animal is reached.
+fn every(times: &[bool]) -> Vec<usize> {
+    (0..times.len()).filter(|&time| times[time]).collect()
+}
+
 /// Intervals of the journeys of every ordered pair of different animals, by departure. At which times an animal is reached
 /// with one departure, `arrivals` is told, and it says which of these times are taken.
-fn intervals(
+fn intervals<'a>(
     opening: Opening,
-    contacts: &Contacts,
+    contacts: impl Iterator<Item = &'a Contact>,
     arrivals: impl Fn(&[bool]) -> Vec<usize>,
 ) -> Cells {
     let mut leaving = vec![Vec::new(); opening.animals as usize];

@@ -1,8 +1,8 @@
-//! Document 01's add rule and its questions on cells, word for word, for any well-formed table.
+//! The add rule of document 01 and the questions of documents 01 and 02 on cells, for any well-formed table.
 
 use crate::testing::calls::accepted;
 use crate::testing::contents::Contents;
-use crate::testing::words::{Cells, Contact, Interval, Opening};
+use crate::testing::words::{Cells, Contact, Interval, Opening, Window};
 use crate::Added;
 use std::cmp::Reverse;
 
@@ -27,6 +27,12 @@ impl Stored {
     /// The intervals stored for the pair (u, v).
     pub fn cell(&self, u: u32, v: u32) -> &[Interval] {
         &self.cells[self.opening.pair(u, v)]
+    }
+
+    /// The intervals stored for the pair (u, v) that fit the window.
+    fn fitting(&self, u: u32, v: u32, window: Window) -> impl Iterator<Item = &Interval> {
+        let fits = move |i: &&Interval| i.fits(window, self.opening.carry);
+        self.cell(u, v).iter().filter(fits)
     }
 
     /// The tick d(x) at which `x` is left on the way to the contact, if any.
@@ -72,9 +78,9 @@ impl Stored {
     }
 
     /// The contacts that the chain's rule goes through from `u`, and whether they end at `v`.
-    pub fn walk(&self, u: u32, v: u32, window: Interval) -> (Vec<Contact>, bool) {
+    pub fn walk(&self, u: u32, v: u32, window: Window) -> (Vec<Contact>, bool) {
         let mut walked = Vec::new();
-        let fitting = self.cell(u, v).iter().filter(|i| i.fits(window));
+        let fitting = self.fitting(u, v, window);
         let Some(kept) = fitting.min_by_key(|i| (i.arrival, Reverse(i.departure))) else {
             return (walked, false);
         };
@@ -141,8 +147,8 @@ impl Contents for Stored {
         (after.cells, new)
     }
 
-    fn reaches(&self, u: u32, v: u32, window: Interval) -> bool {
-        self.cell(u, v).iter().any(|i| i.fits(window))
+    fn reaches(&self, u: u32, v: u32, window: Window) -> bool {
+        self.fitting(u, v, window).next().is_some()
     }
 
     fn earliest(&self, u: u32, v: u32, first: u32) -> Option<Interval> {
@@ -155,7 +161,7 @@ impl Contents for Stored {
         arrived.max_by_key(|i| i.departure).copied()
     }
 
-    fn chain(&self, u: u32, v: u32, window: Interval) -> Option<Vec<Contact>> {
+    fn chain(&self, u: u32, v: u32, window: Window) -> Option<Vec<Contact>> {
         let (walked, ends) = self.walk(u, v, window);
         (ends && walked.len() < self.opening.animals as usize).then_some(walked)
     }

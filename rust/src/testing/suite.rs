@@ -14,11 +14,12 @@ pub use lent::Lent;
 pub use reply::{Export, Reply};
 
 use crate::testing::calls::found;
+use crate::testing::cases;
 use crate::testing::check;
 use crate::testing::compare::same_words;
 use crate::testing::guard::{Place, PLACES};
 use crate::testing::random::Random;
-use crate::testing::words::{self, Interval};
+use crate::testing::words::{self, Interval, Window};
 use std::collections::BTreeMap;
 use std::thread;
 
@@ -102,15 +103,15 @@ impl Suite {
         }
     }
 
-    /// Makes every legal call on a small table, and one in so many of those with a number one beyond, and compares.
+    /// Makes every call on a small table whose animals are legal and whose ticks are those of contacts and arrivals, first
+    /// not after last, and one in so many of those with a number one beyond, and compares.
     #[track_caller]
     pub fn compare_every(&mut self, random: &mut Random, lent: &Lent, rarely: usize) {
         let opening = lent.opening;
         let beyond = opening.last_arrival() + 1;
-        let windows: Vec<(u32, u32)> = (0..=beyond)
-            .flat_map(|first| (0..=beyond).map(move |last| (first, last)))
-            .collect();
-        let is_window = |first, last| check::window(opening, first, last).is_ok();
+        let windows: Vec<(u32, u32)> = cases::every_two(0, beyond).collect();
+        let is_tick = |tick| check::tick(opening, tick).is_ok();
+        let in_turn = |first, last| is_tick(first) && is_tick(last) && first <= last;
         let asks = |random: &mut Random, legal: bool| legal || random.once_in(rarely);
         for u in 0..=opening.animals {
             for v in 0..=opening.animals {
@@ -121,20 +122,20 @@ impl Suite {
                     }
                 }
                 for tick in 0..=beyond {
-                    if asks(random, pair && check::tick(opening, tick).is_ok()) {
+                    if asks(random, pair && is_tick(tick)) {
                         self.compare(lent, &Call::Earliest(u, v, tick));
                         self.compare(lent, &Call::Latest(u, v, tick));
                     }
                 }
                 for &(first, last) in &windows {
-                    if asks(random, pair && is_window(first, last)) {
+                    if asks(random, pair && in_turn(first, last)) {
                         self.compare_pair(random, lent, (u, v), (first, last));
                     }
                 }
             }
             for &(first, last) in &windows {
                 let animal = check::animal(opening, u).is_ok();
-                if asks(random, animal && is_window(first, last)) {
+                if asks(random, animal && in_turn(first, last)) {
                     let set = draws::set(random);
                     self.compare(lent, &Call::Reached(u, first, last, set));
                 }
@@ -204,13 +205,13 @@ impl Drop for Suite {
     }
 }
 
-/// A claimed chain for a pair: mostly the chain of the widest window, where there is one.
+/// A claimed chain for a pair: mostly the chain of the window of all ticks, where there is one.
 fn claim(random: &mut Random, lent: &Lent, (u, v): (u32, u32)) -> Vec<u32> {
     let pair = check::animals(lent.opening, u, v).is_ok();
-    let widest = Interval::new(1, lent.opening.last_arrival());
+    let whole = Window::whole(lent.opening);
     let contents = lent.known.contents().ok();
     let told = contents.filter(|_| pair && !random.once_in(4));
-    let chain = told.and_then(|contents| contents.chain(u, v, widest));
+    let chain = told.and_then(|contents| contents.chain(u, v, whole));
     words::contact_words(&chain.unwrap_or_else(|| lent.journey(random, 3)))
 }
 

@@ -1,4 +1,4 @@
-//! Contacts, intervals, openings and stays, and their 32-bit words as documents 01 and 02 lay them out.
+//! Contacts, intervals, windows, openings and stays, and their 32-bit words as documents 01 and 02 lay them out.
 
 pub use crate::{Interval, Stay};
 
@@ -16,6 +16,13 @@ pub struct Contact {
     pub tick: u32,
     pub from: u32,
     pub to: u32,
+}
+
+/// A window: its first and its last tick.
+#[derive(Clone, Copy, Debug, PartialEq, Eq, PartialOrd, Ord)]
+pub struct Window {
+    pub first: u32,
+    pub last: u32,
 }
 
 /// The intervals of every ordered pair of animals, at the places that `pair` gives.
@@ -85,10 +92,32 @@ impl Interval {
         other.departure <= self.departure && self.arrival <= other.arrival
     }
 
-    /// Whether a journey with this interval fits the window from its first tick to its last: it departs at or after the
-    /// first and arrives by the last.
-    pub fn fits(self, window: Interval) -> bool {
-        self.within(window)
+    /// Whether this interval, stored in a table with this carry time, fits the window: it departs at the first tick or
+    /// later, and arrives no more than the carry time after the last.
+    pub fn fits(self, window: Window, carry: u32) -> bool {
+        window.first <= self.departure && self.arrival <= window.last + carry
+    }
+}
+
+impl Window {
+    /// The window from the first tick to the last.
+    pub fn new(first: u32, last: u32) -> Window {
+        Window { first, last }
+    }
+
+    /// The window of all ticks of a table with this opening.
+    pub fn whole(opening: Opening) -> Window {
+        Window::new(1, opening.ticks)
+    }
+
+    /// The tightest window in which all contacts of the journey lie.
+    pub fn around(journey: &[Contact]) -> Window {
+        Window::new(journey[0].tick, journey[journey.len() - 1].tick)
+    }
+
+    /// Whether the contact lies in the window.
+    pub fn has(self, contact: Contact) -> bool {
+        self.first <= contact.tick && contact.tick <= self.last
     }
 }
 
@@ -126,6 +155,11 @@ pub fn journey(carry: u32, contacts: &[Contact]) -> Option<Interval> {
     let (first, last) = (contacts.first()?, contacts.last()?);
     let interval = Interval::new(first.tick, last.interval(carry).arrival);
     contacts.windows(2).all(goes_on).then_some(interval)
+}
+
+/// The first and the last animal of a journey.
+pub fn ends(journey: &[Contact]) -> (u32, u32) {
+    (journey[0].from, journey[journey.len() - 1].to)
 }
 
 /// The number of words of a set of animals.

@@ -24,11 +24,10 @@ pub fn contact(random: &mut Random, opening: Opening) -> (u32, u32, u32) {
 /// The numbers of a question, of which some are not legal.
 pub fn question(random: &mut Random, opening: Opening) -> Question {
     let (u, v) = (animal(random, opening), animal(random, opening));
-    let last = opening.last_arrival();
-    let legal = [random.between(1, last), random.between(1, last)];
+    let ticks = opening.ticks;
+    let legal = [random.between(1, ticks), random.between(1, ticks)];
     let (low, high) = (legal[0].min(legal[1]), legal[0].max(legal[1]));
-    let ends = [0, 1, opening.ticks, last, last + 1, u32::MAX];
-    let end = random.one_of(&ends);
+    let end = random.one_of(&cases::window_edges(opening));
     match random.below(12) {
         0 => (u, v, end, high),
         1 => (u, v, low, end),

@@ -13,8 +13,8 @@ use herd::testing::words::{self, Contact, Opening};
 use met::Kind::{Answer, Refusal};
 use met::Met;
 use session::{
-    same_text, Session, ADD, ASK, CLEAR, COMMAND_BYTES, FULL_TALLY, MOST_COMMANDS, MOST_RECORDS,
-    MOST_TABLE, OPEN, RECORD, TABLE, WORD,
+    same_text, Question, Session, ADD, ASK, CLEAR, COMMAND_BYTES, FULL_TALLY, MOST_COMMANDS,
+    MOST_RECORDS, MOST_TABLE, OPEN, RECORD, TABLE, WORD,
 };
 use std::time::Duration;
 
@@ -44,9 +44,10 @@ fn session_of_document_01() {
     for illegal in [(0, 4, 1), (2, 2, 1), (0, 1, 0), (0, 1, 7)] {
         session.add(illegal);
     }
-    session.put_list(&[(0, 3, 1, 5), (0, 3, 2, 5), (0, 3, 1, 4), (0, 3, 3, 7)]);
+    session.put_list(&[(0, 3, 1, 4), (0, 3, 2, 4), (0, 3, 1, 3), (0, 3, 3, 6)]);
     session.ask();
-    session.put_list(&[(3, 0, 1, 7), (0, 4, 1, 7), (1, 1, 1, 7), (0, 3, 1, 8)]);
+    session.put_list(&[(3, 0, 1, 6), (0, 4, 1, 6), (1, 1, 1, 6), (0, 3, 1, 7)]);
+    session.record((0, 3, 1, 6));
     session.ask();
     session.put(112, 1);
     session.ask();
@@ -54,9 +55,9 @@ fn session_of_document_01() {
         1 0\n\
         1 1 1 0 0\n1 1 2 0 0\n1 2 3 0 0\n2 0 3 1 0\n\
         0 7 3 1 1\n0 8 3 1 2\n0 9 3 1 3\n0 9 3 1 4\n\
-        1 4\n0 3 1 5 1 0\n0 3 2 5 1 0\n0 3 1 4 2 0\n0 3 3 7 2 0\n\
-        1 4\n3 0 1 7 2 0\n0 4 1 7 0 7\n1 1 1 7 0 8\n0 3 1 8 0 9\n\
-        0 6\n3 0 1 7 2 0\n0 4 1 7 0 7\n1 1 1 7 0 8\n0 3 1 8 0 9\n";
+        1 4\n0 3 1 4 1 0\n0 3 2 4 1 0\n0 3 1 3 2 0\n0 3 3 6 2 0\n\
+        1 5\n3 0 1 6 2 0\n0 4 1 6 0 7\n1 1 1 6 0 8\n0 3 1 7 0 9\n0 3 1 6 1 0\n\
+        0 6\n3 0 1 6 2 0\n0 4 1 6 0 7\n1 1 1 6 0 8\n0 3 1 7 0 9\n0 3 1 6 1 0\n";
     same_text(session.text(), text, "the model");
     session.compare("the program", &mut Met::default());
     for size in [1, 3, 4, 7, 19, 20, 21, 50] {
@@ -95,18 +96,59 @@ fn windows_at_and_past_their_ends() {
     for _ in 0..60 {
         let opening = cases::opening_with_pairs(&mut random);
         let mut session = session_with_contacts(&mut random, opening);
-        let last = opening.last_arrival();
-        let ends = [0, 1, opening.ticks, last - 1, last, last + 1, u32::MAX];
-        let pair = cases::contact(&mut random, opening);
-        let windows = ends.map(|first| ends.map(|last| (pair.from, pair.to, first, last)));
-        let mut list = windows.concat();
-        random.shuffle(&mut list);
-        session.put_list(&list);
-        session.ask();
+        for _ in 0..4 {
+            let pair = cases::pair(&mut random, opening);
+            let edges = cases::window_edges(opening);
+            ask_every(&mut random, &mut session, pair, &edges);
+        }
         session.compare(opening, &mut met);
     }
     met.at_least(RECORD, &[(Answer(1), 100), (Answer(2), 100)]);
     met.at_least(RECORD, &[(Refusal(9), 1_000)]);
+}
+
+/// Asks for the pair in every window of two of these ticks, in lists as long as there can be.
+fn ask_every(random: &mut Random, session: &mut Session, (u, v): (u32, u32), ticks: &[u32]) {
+    let mut list: Vec<Question> = Vec::new();
+    for &first in ticks {
+        list.extend(ticks.iter().map(|&last| (u, v, first, last)));
+    }
+    random.shuffle(&mut list);
+    for some in list.chunks(MOST_RECORDS) {
+        session.put_list(some);
+        session.ask();
+    }
+}
+
+#[test]
+fn every_window_of_small_tables() {
+    let mut random = Random::new(1111);
+    let mut met = Met::default();
+    for (animals, ticks, carry) in [
+        (2, 1, 1),
+        (3, 5, 1),
+        (4, 6, 2),
+        (3, 7, 3),
+        (3, 8, 5),
+        (2, 4, 4),
+        (3, 3, 6),
+    ] {
+        let opening = Opening::new(animals, ticks, carry);
+        let every_tick: Vec<u32> = (0..=opening.last_arrival() + 1).collect();
+        for _ in 0..6 {
+            let mut session = Session::new();
+            session.open(opening);
+            for contact in cases::few_contacts(&mut random, opening, 8) {
+                session.add((contact.from, contact.to, contact.tick));
+            }
+            for pair in cases::every_two(0, animals - 1) {
+                ask_every(&mut random, &mut session, pair, &every_tick);
+            }
+            session.compare(opening, &mut met);
+        }
+    }
+    met.at_least(RECORD, &[(Answer(1), 500), (Answer(2), 500)]);
+    met.at_least(RECORD, &[(Refusal(8), 5_000), (Refusal(9), 5_000)]);
 }
 
 #[test]
@@ -406,7 +448,7 @@ fn input_cut_short_at_every_byte() {
     cut_short_behind(&session);
     session.add((0, 1, 2));
     cut_short_behind(&session);
-    session.put_list(&[(0, 1, 1, 4)]);
+    session.put_list(&[(0, 1, 1, 3)]);
     cut_short_behind(&session);
     session.ask();
     cut_short_behind(&session);

@@ -21,13 +21,13 @@ entry c = judged c .before .before .before
 passed : (c : tie.After-enum-told) → let a = entry c .args in reachRefusal (a .table .now) (a .u) (a .v) (a .first) (a .last) ≡ none
 passed c = verdict-passed (judged c .judge-reach .ensures) (c .enum-told .given .1)
 
-spells-requires : tie.Need-spells-requires
+form-journey-requires : tie.Need-form-journey-requires
 unfolding reachRefusal
-spells-requires c κs = valid-behind (entry c .args .table .now) (passed c) .0
+form-journey-requires c κs = valid-behind (entry c .args .table .now) (passed c) .0
 
 returns : tie.Need-returns
 unfolding claimedAnswer
-returns c = let s = c .before in rw (passed (s .before), sym (s .spells .ensures) ∙ c .if1 .taken) refl
+returns c = let s = c .before in rw (passed (s .before), sym (s .form-journey .ensures) ∙ c .if1 .taken) refl
 
 returns-2 : tie.Need-returns-2
 unfolding claimedAnswer
@@ -35,8 +35,8 @@ returns-2 c = rw (verdict-refused (c .before .before .before .judge-reach .ensur
 
 returns-3 : tie.Need-returns-3
 unfolding claimedAnswer
-returns-3 c = let s = c .before in rw (passed (s .before), sym (s .spells .ensures) ∙ c .if1 .left) refl
+returns-3 c = let s = c .before in rw (passed (s .before), sym (s .form-journey .ensures) ∙ c .if1 .left) refl
 
 pub claimed-spec : {M : Type 1} → statement M
 claimed-spec =
-    tie.close (tie.spec (λ c κs. search needs) (λ c. search needs) (λ c. search needs) spells-requires returns returns-2 returns-3)
+    tie.close (tie.spec (λ c κs. search needs) (λ c. search needs) (λ c. search needs) form-journey-requires returns returns-2 returns-3)

@@ -12,10 +12,10 @@ use Rattle.claims.proofs.follows.Statement.{statement}
 use Rattle.claims.proofs.follows.Tie as tie
 
 abbrev Inv-loop : tie.InvT-loop
-Inv-loop table u v chain carry x₀ a₀ i₀ x a i = (i ≤ length chain) × (follows table v x a (drop i chain) ≡ follows table v u 0 chain)
+Inv-loop table u v first last chain carry x₀ a₀ i₀ x a i = (i ≤ length chain) × (follows table v first last x a (drop i chain) ≡ follows table v first last u 0 chain)
 
 abbrev μ-loop : tie.MeasureT-loop
-μ-loop table u v chain carry x₀ a₀ i₀ x a i = length chain - i
+μ-loop table u v first last chain carry x₀ a₀ i₀ x a i = length chain - i
 
 -- ---- places
 
@@ -38,7 +38,7 @@ returns c =
     let f = c .before in
     let l = f .before .before .before in
     let a = start l .args in
-    follows-stop (a .table .now) (a .v) (l .loop .x) (l .loop .a) (a .chain .now) (l .loop .i) (l .loop .inv .1) (omega arith) (f .goes-on .ensures) (c .if1 .taken)
+    follows-stop (a .table .now) (a .v) (a .first) (a .last) (l .loop .x) (l .loop .a) (a .chain .now) (l .loop .i) (l .loop .inv .1) (omega arith) (f .goes-on .ensures) (c .if1 .taken)
 
 loop-again : tie.Need-loop-again Inv-loop μ-loop
 loop-again c =
@@ -47,7 +47,7 @@ loop-again c =
     let l = f .before .before .before in
     let a = start l .args in (
       omega arith,
-      follows-turn (a .table .now) (a .v) (l .loop .x) (l .loop .a) (a .chain .now) (l .loop .i) (l .loop .inv .1) _ _ _ (omega arith)
+      follows-turn (a .table .now) (a .v) (a .first) (a .last) (l .loop .x) (l .loop .a) (a .chain .now) (l .loop .i) (l .loop .inv .1) _ _ _ (omega arith)
           (f .goes-on .ensures) (o .if1 .left) (c .before .to-of .ensures) (c .tick-of .ensures) (counted l .carry-of .ensures),
     )
 
@@ -55,7 +55,7 @@ returns-2 : tie.Need-returns-2 Inv-loop μ-loop
 returns-2 c =
     let l = c .before in
     let a = start l .args in
-    follows-end (a .table .now) (a .v) (l .loop .x) (l .loop .a) (a .chain .now) (l .loop .i) (l .loop .inv .1) (omega arith)
+    follows-end (a .table .now) (a .v) (a .first) (a .last) (l .loop .x) (l .loop .a) (a .chain .now) (l .loop .i) (l .loop .inv .1) (omega arith)
 
 pub follows-spec : {M : Type 1} → statement M
 follows-spec =

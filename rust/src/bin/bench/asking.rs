@@ -22,7 +22,8 @@ pub struct Times {
     pub write_log: f64,
 }
 
-/// An open table, a buffer that is long enough, the pair that is asked for, and the last tick of the widest window.
+/// An open table, a buffer that is long enough, the pair that is asked for, and the last tick of the
+/// window, which begins at tick 1.
 pub struct Asking {
     table: Vec<u32>,
     buffer: Vec<u32>,
@@ -40,7 +41,7 @@ impl Asking {
             table,
             buffer: vec![0; room.max(workload.opening.animals as usize)],
             pair: drawn(),
-            last: workload.opening.last_arrival(),
+            last: workload.opening.ticks,
         };
         let pairs: Vec<Contact> = (0..PAIRS).map(|_| drawn()).collect();
         let longest = pairs.into_iter().max_by_key(|&pair| asking.contacts(pair));

@@ -5,7 +5,7 @@ use super::lent::Lent;
 use super::reply::Export;
 use crate::testing::cases;
 use crate::testing::random::Random;
-use crate::testing::words::{self, Cells, Contact, Interval, Opening, Stay};
+use crate::testing::words::{self, Cells, Contact, Opening, Stay, Window};
 
 impl Lent {
     /// A call of this kind.
@@ -104,12 +104,12 @@ impl Lent {
         let mut chain = words::contact_words(&journey);
         let (mut u, mut v) = (animal(random, self.opening), animal(random, self.opening));
         let (mut first, mut last) = window(random, self.opening);
-        if let Some(taken) = words::journey(self.opening.carry, &journey) {
+        if !journey.is_empty() {
             if !random.once_in(5) {
-                (u, v) = (journey[0].from, journey[journey.len() - 1].to);
+                (u, v) = words::ends(&journey);
             }
             if !random.once_in(5) {
-                (first, last) = window_about(random, self.opening, taken);
+                (first, last) = window_about(random, self.opening, &journey);
             }
         }
         if random.once_in(2) {
@@ -196,36 +196,28 @@ pub fn tick(random: &mut Random, last: u32) -> u32 {
 
 /// The first and last tick of a window, now and then of one that is refused.
 pub fn window(random: &mut Random, opening: Opening) -> (u32, u32) {
-    let last = opening.last_arrival();
-    let edges = [
-        0,
-        1,
-        opening.ticks,
-        opening.ticks + 1,
-        last,
-        last + 1,
-        u32::MAX,
-    ];
+    let ticks = opening.ticks;
+    let edges = cases::window_edges(opening);
     match random.below(12) {
         0 => (random.one_of(&edges), random.one_of(&edges)),
-        1 => (tick(random, last), tick(random, last)),
-        2 | 3 => (1, last),
+        1 => (tick(random, ticks), tick(random, ticks)),
+        2 | 3 => (1, ticks),
         _ => {
-            let (one, other) = (random.between(1, last), random.between(1, last));
+            let (one, other) = (random.between(1, ticks), random.between(1, ticks));
             (one.min(other), one.max(other))
         }
     }
 }
 
-/// A window that a journey with this interval just fits, fits well, or fits not by one tick.
-pub fn window_about(random: &mut Random, opening: Opening, taken: Interval) -> (u32, u32) {
-    let (first, last) = (taken.departure, taken.arrival);
+/// A window that the journey just fits, fits well, or fits not by one tick.
+pub fn window_about(random: &mut Random, opening: Opening, journey: &[Contact]) -> (u32, u32) {
+    let Window { first, last } = Window::around(journey);
     match random.below(6) {
         0 => (first + 1, last),
         1 => (first, last - 1),
         2 | 3 => (first, last),
         _ => {
-            let end = random.between(last, opening.last_arrival());
+            let end = random.between(last, opening.ticks);
             (random.between(1, first), end)
         }
     }
