@@ -82,6 +82,11 @@ module _ (T : List ℕ) (w first last x a : ℕ) where
       let p : leb a (get tickField w + 1) ≡ false = ap (leb a) (sym et) ∙ lt-leb a t h in
       rw (p, and-false (eqb (get fromField w) x), and-false (heldWord T w && inWindow first last (contactOf w))) refl
 
+  -- Nor does one that lies outside the window.
+  pub goes-outside : {i : Bool} → i ≡ inWindow first last (contactOf w) → not i ≡ true → false ≡ goesOn T first last x a w
+  unfolding goesOn
+  goes-outside e n = rw (stopped e n, and-false (heldWord T w)) refl
+
   module _ (u t : ℕ) (eu : u ≡ get fromField w) (et : t ≡ get tickField w + 1) (h : u ≡ x) (k : a ≤ t) {i : Bool} (e : i ≡ inWindow first last (contactOf w)) where
     -- It leaves x in time.
     leaves : leavesFrom x a (contactOf w) ≡ true
@@ -89,11 +94,6 @@ module _ (T : List ℕ) (w first last x a : ℕ) where
         let p : eqb (get fromField w) x ≡ true = ap (λ (i : ℕ). eqb i x) (sym eu) ∙ eq-eqb u x h in
         let q : leb a (get tickField w + 1) ≡ true = ap (leb a) (sym et) ∙ le-leb a t k in
         rw (p, q) refl
-
-    -- Nor does one that lies outside the window.
-    pub goes-outside : not i ≡ true → false ≡ goesOn T first last x a w
-    unfolding goesOn
-    goes-outside n = rw (stopped e n, and-false (heldWord T w)) refl
 
     -- Any other goes on exactly when it is held.
     pub goes-held : not i ≡ false → {b : Bool} → b ≡ heldWord T w → b ≡ goesOn T first last x a w

@@ -185,7 +185,7 @@ module _ {n τ δ : ℕ} {T : List ℕ} (g : ValidOf n τ δ T) (u v first last 
   unfolding claimedAnswer
   claimed-no = rw (reach-asked g u v first last p w) (no-iff (formJourney T v first last u 0 ws) c)
 
--- The words spell a journey of one set exactly when they spell one of another with the same contacts.
+-- Words that spell a fitting journey of some contacts spell one of every set that has them.
 spells-among : {A B : Contacts} {δ u v first last : ℕ} {ws : List ℕ} → ((k : Contact) → A k → B k) → SpellsJourney A δ u v first last ws → SpellsJourney B δ u v first last ws
 spells-among {A} {B} {first = first} {last = last} f r =
     record { spelled = record { taken = r .spelled .taken; journey = among lies (r .spelled .journey) }; words = r .words ∙ ap (map contactWord) (sym (among-contacts lies (r .spelled .journey))) }

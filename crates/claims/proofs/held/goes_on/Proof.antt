@@ -33,10 +33,8 @@ left c = ticked c .before .before
 returns-3 : tie.Need-returns-3
 returns-3 c =
     let i = c .before in
-    let m = ticked i in
-    let f = left i in
-    let a = f .before .before .args in
-    goes-outside (a .table .now) (a .w) (a .first) (a .last) (a .x) (a .a) _ _ (f .from-of .ensures) (m .tick-of .ensures) (omega arith) (omega arith) (i .in-window .ensures) (c .if3 .taken)
+    let a = left i .before .before .args in
+    goes-outside (a .table .now) (a .w) (a .first) (a .last) (a .x) (a .a) (i .in-window .ensures) (c .if3 .taken)
 
 returns-4 : tie.Need-returns-4
 returns-4 c =
