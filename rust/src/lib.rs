@@ -47,8 +47,9 @@
 //! | all others | 6 | some cell of the table is not well formed |
 //! | those with animals | 7 | an animal is n or above |
 //! | those with two | 8 | both animals are the same |
-//! | `add`, those with windows | 9 | a tick is not 1 to τ, or first is after last |
+//! | `add`, those with windows | 9 | a tick is not 1 to τ |
 //! | `earliest`, `latest` | 9 | the tick is not 1 to τ+δ, with δ the carry time |
+//! | those with windows | 19 | both ticks are 1 to τ, and the first is after the last |
 //! | `chain` | 10 | the buffer is shorter than n−1 words |
 //! | `write_log` | 15 | the buffer is shorter than the contacts held and 2 |
 //! | `join` | 17 | the two tables have different opening words |
@@ -70,6 +71,7 @@
 //! assert_eq!(herd::reach(&table, 0, 3, 1, 3), Answer::No);
 //! assert_eq!(herd::reach(&table, 0, 3, 3, 6), Answer::No);
 //! assert_eq!(herd::reach(&table, 0, 3, 1, 7), Answer::Refused(9));
+//! assert_eq!(herd::reach(&table, 0, 3, 4, 1), Answer::Refused(19));
 //! let interval = Interval { departure: 2, arrival: 5 };
 //! assert_eq!(herd::earliest(&table, 0, 3, 2), Found::At(interval));
 //! let mut words = [0; 3];

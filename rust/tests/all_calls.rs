@@ -7,7 +7,7 @@ use herd::testing::suite::{draws, Call, Export, Lent, Reply, Suite};
 use herd::testing::words::{self, Cells, Opening, Stay};
 
 /// The refusals on a good table.
-const ON_GOOD_TABLES: [u32; 7] = [7, 8, 9, 10, 15, 17, 18];
+const ON_GOOD_TABLES: [u32; 8] = [7, 8, 9, 10, 15, 17, 18, 19];
 
 /// The refusals of opening and of reading a log.
 const ANEW: [u32; 8] = [1, 2, 3, 4, 11, 12, 13, 14];
@@ -146,7 +146,7 @@ fn every_call_on_tables_that_adds_built() {
     }
     suite.at_least(150, &Export::ON_OPEN_TABLES, &ON_GOOD_TABLES);
     suite.at_least(1_000, &ON_PAIRS, &ON_GOOD_TABLES);
-    suite.at_least(1_000, &[Export::Connected, Export::Reached], &[7, 9]);
+    suite.at_least(1_000, &[Export::Connected, Export::Reached], &[7, 9, 19]);
     chains_up_to(&suite, 3, 1_000);
 }
 
@@ -160,7 +160,7 @@ fn every_call_on_tables_that_no_adds_built() {
     }
     suite.at_least(150, &Export::ON_OPEN_TABLES, &ON_GOOD_TABLES);
     suite.at_least(1_000, &ON_PAIRS, &ON_GOOD_TABLES);
-    suite.at_least(1_000, &[Export::Connected, Export::Reached], &[7, 9]);
+    suite.at_least(1_000, &[Export::Connected, Export::Reached], &[7, 9, 19]);
     chains_up_to(&suite, 3, 300);
 }
 
@@ -209,7 +209,8 @@ fn one_animal_is_connected_and_reaches_none() {
         (Export::Stays, Reply::StaysAdded(0)),
     ] {
         let is_answer = |reply| reply == answer;
-        let is_other = |reply| !is_answer(reply) && !matches!(reply, Reply::Refused(7 | 9 | 18));
+        let is_other =
+            |reply| !is_answer(reply) && !matches!(reply, Reply::Refused(7 | 9 | 18 | 19));
         assert_eq!(suite.times(export, is_other), 0, "{export:?}");
         assert!(suite.times(export, is_answer) > 500, "{export:?}");
     }
@@ -405,7 +406,7 @@ fn numbers_at_their_edges() {
         }
     }
     suite.at_least(40, &ON_PAIRS, &ON_GOOD_TABLES);
-    suite.at_least(40, &[Export::Connected, Export::Reached], &[7, 9]);
+    suite.at_least(40, &[Export::Connected, Export::Reached], &[7, 9, 19]);
     suite.at_least(20, &[Export::Add], &ON_GOOD_TABLES);
 }
 
@@ -488,7 +489,15 @@ fn refusals_come_in_order() {
         ((1, 5), Some(9)),
         ((1, 6), Some(9)),
         ((1, 7), Some(9)),
-        ((4, 3), Some(9)),
+        ((2, 1), Some(19)),
+        ((3, 1), Some(19)),
+        ((3, 2), Some(19)),
+        ((4, 1), Some(19)),
+        ((4, 2), Some(19)),
+        ((4, 3), Some(19)),
+        ((5, 1), Some(9)),
+        ((4, 0), Some(9)),
+        ((u32::MAX, 0), Some(9)),
         ((0, 0), Some(9)),
         ((5, 5), Some(9)),
         ((0, u32::MAX), Some(9)),

@@ -79,13 +79,18 @@ fn every_length_of_buffers() {
             if animals == 256 && room % 32 != 0 && room < 252 {
                 continue;
             }
-            let replies = match (animals, room + 1 < animals as usize) {
-                (1, _) => [Reply::Refused(8); 3],
-                (_, true) => [Reply::Refused(10), Reply::Refused(10), Reply::Refused(9)],
-                (_, false) => [Reply::Chain(1), Reply::NoJourney, Reply::Refused(9)],
+            let refused = |number| Reply::Refused(if animals == 1 { 8 } else { number });
+            let (there, back) = match room + 1 < animals as usize || animals == 1 {
+                true => (refused(10), refused(10)),
+                false => (Reply::Chain(1), Reply::NoJourney),
             };
-            let asked = [((0, far), (1, 2)), ((far, 0), (1, 2)), ((0, far), (1, 3))];
-            for ((pair, window), reply) in asked.into_iter().zip(replies) {
+            for (pair, window, reply) in [
+                ((0, far), (1, 2), there),
+                ((far, 0), (1, 2), back),
+                ((0, far), (1, 3), refused(9)),
+                ((0, far), (3, 1), refused(9)),
+                ((0, far), (2, 1), refused(19)),
+            ] {
                 let call = chain(&mut random, pair, window, room);
                 suite.require(&lent, &call, reply);
             }

@@ -199,12 +199,13 @@ fn other_animals_and_narrower_windows_are_answered_no() {
         };
         ask((u, v), first, last, Reply::Yes);
         ask((u, v), 1, ticks, Reply::Yes);
-        let narrower = match first < last {
-            true => Reply::No,
-            false => Reply::Refused(9),
+        let narrower = |is_out| match (first < last, is_out) {
+            (true, _) => Reply::No,
+            (false, true) => Reply::Refused(9),
+            (false, false) => Reply::Refused(19),
         };
-        ask((u, v), first + 1, last, narrower);
-        ask((u, v), first, last - 1, narrower);
+        ask((u, v), first + 1, last, narrower(first == ticks));
+        ask((u, v), first, last - 1, narrower(last == 1));
         if first < ticks {
             ask((u, v), first + 1, ticks, Reply::No);
         }
@@ -217,7 +218,7 @@ fn other_animals_and_narrower_windows_are_answered_no() {
             ask((other, v), first, last, Reply::No);
         }
     }
-    suite.at_least(500, &[Export::Claimed], &[]);
+    suite.at_least(500, &[Export::Claimed], &[19]);
 }
 
 #[test]

@@ -116,7 +116,11 @@ fn marked_and_unmarked_answers_of_the_session() {
         ("whole window", Call::Reach(0, 3, 1, 6), Reply::Yes),
         ("one tick more", Call::Reach(0, 3, 1, 7), Reply::Refused(9)),
         ("from tick 0", Call::Reach(0, 3, 0, 4), Reply::Refused(9)),
-        ("last first", Call::Reach(0, 3, 4, 2), Reply::Refused(9)),
+        ("last first", Call::Reach(0, 3, 4, 2), Reply::Refused(19)),
+        ("last first", Call::Reach(0, 3, 6, 1), Reply::Refused(19)),
+        ("and past it", Call::Reach(0, 3, 7, 1), Reply::Refused(9)),
+        ("and tick 0", Call::Reach(0, 3, 4, 0), Reply::Refused(9)),
+        ("one tick", Call::Reach(0, 1, 2, 2), Reply::Yes),
         ("one animal", Call::Reach(3, 3, 1, 4), Reply::Refused(8)),
         ("animal 4", Call::Reach(0, 4, 1, 4), Reply::Refused(7)),
         ("from 1", Call::Earliest(0, 3, 1), at(2, 5)),
@@ -138,10 +142,15 @@ fn marked_and_unmarked_answers_of_the_session() {
         ("by 3", reached(0, 1, 3), Reply::Animals(1)),
         ("animal 4", reached(4, 1, 6), Reply::Refused(7)),
         ("one tick more", reached(0, 1, 7), Reply::Refused(9)),
+        ("last first", reached(0, 2, 1), Reply::Refused(19)),
+        ("and past it", reached(0, 7, 1), Reply::Refused(9)),
+        ("one tick", reached(0, 2, 2), Reply::Animals(1)),
         ("all", Call::Connected(1, 6), Reply::No),
         ("tightest", Call::Connected(2, 4), Reply::No),
         ("last tick", Call::Connected(6, 6), Reply::No),
         ("one tick more", Call::Connected(1, 7), Reply::Refused(9)),
+        ("last first", Call::Connected(6, 5), Reply::Refused(19)),
+        ("and tick 0", Call::Connected(6, 0), Reply::Refused(9)),
         ("tightest", chain(0, 3, 2, 4, 4), Reply::Chain(2)),
         ("later", chain(0, 3, 3, 6, 5), Reply::NoJourney),
         ("shorter", chain(0, 3, 1, 3, 9), Reply::NoJourney),
@@ -152,6 +161,10 @@ fn marked_and_unmarked_answers_of_the_session() {
         ("no buffer", chain(0, 3, 1, 6, 0), Reply::Refused(10)),
         ("one tick more", chain(0, 3, 1, 7, 3), Reply::Refused(9)),
         ("and no buffer", chain(0, 3, 1, 7, 0), Reply::Refused(9)),
+        ("last first", chain(0, 3, 4, 2, 3), Reply::Refused(19)),
+        ("and no buffer", chain(0, 3, 4, 2, 0), Reply::Refused(19)),
+        ("and past it", chain(0, 3, 7, 2, 0), Reply::Refused(9)),
+        ("one tick", chain(0, 1, 2, 2, 3), Reply::Chain(1)),
         ("P6 claimed", claimed(0, 3, 1, 6, &p6), Reply::Yes),
         ("tightest", claimed(0, 3, 2, 4, &p6), Reply::Yes),
         ("later", claimed(0, 3, 3, 6, &p6), Reply::No),
@@ -161,6 +174,9 @@ fn marked_and_unmarked_answers_of_the_session() {
         ("half", claimed(0, 3, 1, 6, &p6[..1]), Reply::No),
         ("nothing", claimed(0, 3, 1, 6, &[]), Reply::No),
         ("one tick more", claimed(0, 3, 1, 7, &p6), Reply::Refused(9)),
+        ("last first", claimed(0, 3, 4, 2, &p6), Reply::Refused(19)),
+        ("and tick 0", claimed(0, 3, 4, 0, &p6), Reply::Refused(9)),
+        ("one tick", claimed(0, 1, 2, 2, &p6[..1]), Reply::Yes),
     ];
     let mut random = Random::new(2);
     let mut suite = Suite::default();
@@ -278,5 +294,5 @@ fn five_animals() {
     let all_but_connected: Vec<Export> = all_but_connected
         .filter(|&export| export != Export::Connected)
         .collect();
-    suite.at_least(20, &all_but_connected, &[7, 8, 9, 10, 15]);
+    suite.at_least(20, &all_but_connected, &[7, 8, 9, 10, 15, 19]);
 }

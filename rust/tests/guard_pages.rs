@@ -76,7 +76,7 @@ fn tables_that_adds_built_stay_inside() {
     suite.at_least(
         30,
         &Export::ALL,
-        &[1, 2, 3, 4, 7, 8, 9, 10, 11, 12, 13, 14, 15, 17, 18],
+        &[1, 2, 3, 4, 7, 8, 9, 10, 11, 12, 13, 14, 15, 17, 18, 19],
     );
 }
 
@@ -92,7 +92,7 @@ fn tables_that_no_adds_built_stay_inside() {
     suite.at_least(
         30,
         &Export::ALL,
-        &[1, 2, 3, 4, 7, 8, 9, 10, 11, 12, 13, 14, 15, 17, 18],
+        &[1, 2, 3, 4, 7, 8, 9, 10, 11, 12, 13, 14, 15, 17, 18, 19],
     );
 }
 

@@ -126,6 +126,10 @@ fn questions_with_a_few_contacts() {
         ((255, 0, 1024, 1025), Answer::Refused(9), Answer::Refused(9)),
         ((255, 0, 1025, 1025), Answer::Refused(9), Answer::Refused(9)),
         ((255, 0, 1024, 1280), Answer::Refused(9), Answer::Refused(9)),
+        ((255, 0, 1025, 1024), Answer::Refused(9), Answer::Refused(9)),
+        ((255, 0, 1024, 0), Answer::Refused(9), Answer::Refused(9)),
+        ((255, 0, 1024, 1), Answer::Refused(19), Answer::Refused(19)),
+        ((255, 0, 2, 1), Answer::Refused(19), Answer::Refused(19)),
         ((255, 255, 0, 1025), Answer::Refused(8), Answer::Refused(8)),
         ((256, 256, 0, 1025), Answer::Refused(7), Answer::Refused(7)),
     ] {
@@ -158,14 +162,20 @@ fn questions_with_a_few_contacts() {
     let reached = herd::reached(table, 3, 1, 1024, &mut set);
     assert_eq!(reached, Reached::Animals(4));
     assert_eq!(set, [0x81, 0, 0, 0, 0, 0, 0, 0xC000_0000, 7]);
-    for (u, number) in [(256, 7), (255, 9)] {
-        let reached = herd::reached(table, u, 1, 1025, &mut set);
+    for ((u, first, last), number) in [
+        ((256, 1, 1025), 7),
+        ((255, 1, 1025), 9),
+        ((255, 1025, 1), 9),
+        ((255, 1024, 1023), 19),
+    ] {
+        let reached = herd::reached(table, u, first, last, &mut set);
         assert_eq!((reached, set[0]), (Reached::Refused(number), 0x81));
     }
     let reached = herd::reached(table, 255, 1, 1024, &mut set);
     assert_eq!((reached, set[0]), (Reached::Animals(1), 1));
     assert_eq!(herd::connected(table, 1, 1024), Answer::No);
     assert_eq!(herd::connected(table, 1, 1025), Answer::Refused(9));
+    assert_eq!(herd::connected(table, 1024, 1), Answer::Refused(19));
 
     let mut buffer = vec![7; 256];
     for ((u, v, first, last), room, answer) in [
@@ -175,6 +185,9 @@ fn questions_with_a_few_contacts() {
         ((255, 254, 1, 1024), 256, Chain::NoJourney),
         ((255, 0, 1024, 1025), 254, Chain::Refused(9)),
         ((255, 0, 1024, 1280), 256, Chain::Refused(9)),
+        ((255, 0, 1025, 1), 254, Chain::Refused(9)),
+        ((255, 0, 1024, 1), 254, Chain::Refused(19)),
+        ((255, 0, 1024, 1023), 256, Chain::Refused(19)),
         ((255, 255, 0, 1025), 256, Chain::Refused(8)),
         ((256, 256, 0, 1025), 256, Chain::Refused(7)),
     ] {

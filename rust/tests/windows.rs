@@ -35,19 +35,24 @@ const WITH_WINDOWS: [Export; 5] = [
     Export::Claimed,
 ];
 
-/// Yes where it is so, no where it is not, and refusal 9 where no window was given.
-fn answered(so: Option<bool>) -> Reply {
+/// Yes where it is so, no where it is not, and the refusal where no window was given.
+fn answered(so: Result<bool, u32>) -> Reply {
     match so {
-        Some(true) => Reply::Yes,
-        Some(false) => Reply::No,
-        None => Reply::Refused(9),
+        Ok(true) => Reply::Yes,
+        Ok(false) => Reply::No,
+        Err(number) => Reply::Refused(number),
     }
 }
 
-/// The window of these ticks, where it is one on a table with this opening.
-fn legal(opening: Opening, first: u32, last: u32) -> Option<Window> {
-    let is_window = 1 <= first && first <= last && last <= opening.ticks;
-    is_window.then(|| Window::new(first, last))
+/// The window of these ticks on a table with this opening; where they are none, 19 when a window would come of them in the
+/// other order, and else 9.
+fn legal(opening: Opening, first: u32, last: u32) -> Result<Window, u32> {
+    let is_window = |first, last| 1 <= first && first <= last && last <= opening.ticks;
+    match (is_window(first, last), is_window(last, first)) {
+        (true, _) => Ok(Window::new(first, last)),
+        (false, true) => Err(19),
+        (false, false) => Err(9),
+    }
 }
 
 /// A small table that adds built, and every journey of its contacts.
@@ -79,8 +84,8 @@ impl Listed {
                 (answered(connects), Vec::new())
             }
             Call::Reached(u, first, last, ref set) => match window(first, last) {
-                None => (Reply::Refused(9), set.clone()),
-                Some(window) => {
+                Err(number) => (Reply::Refused(number), set.clone()),
+                Ok(window) => {
                     let animals = listing.reached(u, window);
                     let number = Reply::Animals(animals.len() as u32);
                     (number, words::set(&animals).to_vec())
@@ -88,9 +93,9 @@ impl Listed {
             },
             Call::Chain(u, v, first, last, ref buffer) => {
                 match window(first, last).map(|w| listing.chain(u, v, w)) {
-                    None => (Reply::Refused(9), buffer.clone()),
-                    Some(None) => (Reply::NoJourney, buffer.clone()),
-                    Some(Some(chain)) => {
+                    Err(number) => (Reply::Refused(number), buffer.clone()),
+                    Ok(None) => (Reply::NoJourney, buffer.clone()),
+                    Ok(Some(chain)) => {
                         let mut after = buffer.clone();
                         after[..chain.len()].copy_from_slice(&words::contact_words(chain));
                         (Reply::Chain(chain.len() as u32), after)
@@ -122,8 +127,7 @@ impl Listed {
             expected,
             "{call:?} on {opening:?} with {held:?}"
         );
-        *met.entry((call.export(), expected.reply.kind()))
-            .or_insert(0) += 1;
+        *met.entry((call.export(), expected.reply)).or_insert(0) += 1;
     }
 
     /// Makes every call with these ticks for a window, and compares; all journeys of a pair are claimed, and some others.
@@ -149,16 +153,26 @@ impl Listed {
     }
 }
 
-/// How often each call gave each kind of answer.
-type Met = BTreeMap<(Export, &'static str), u32>;
+/// How often each call gave each answer.
+type Met = BTreeMap<(Export, Reply), u32>;
 
-/// Fails where one of the calls with a window gave one of its kinds of answers, or a refusal, less often.
+/// Fails where one of the calls with a window gave one of its kinds of answers, or was refused with 9 or 19, less often.
 #[track_caller]
 fn at_least(times: u32, met: &Met) {
+    let number = |export, is_such: &dyn Fn(Reply) -> bool| -> u32 {
+        let such = met
+            .iter()
+            .filter(|((call, reply), _)| *call == export && is_such(*reply));
+        such.map(|(_, times)| times).sum()
+    };
     for export in WITH_WINDOWS {
-        for kind in export.kinds().iter().chain(&["refused"]) {
-            let number = met.get(&(export, *kind)).copied().unwrap_or(0);
-            assert!(number >= times, "{export:?} {kind}: {number} times");
+        for kind in export.kinds() {
+            let met = number(export, &|reply| reply.kind() == *kind);
+            assert!(met >= times, "{export:?} {kind}: {met} times");
+        }
+        for refusal in [9, 19] {
+            let met = number(export, &|reply| reply == Reply::Refused(refusal));
+            assert!(met >= times, "{export:?} refused {refusal}: {met} times");
         }
     }
 }
@@ -207,8 +221,9 @@ fn the_tightest_window_of_each_journey_fits_and_a_narrower_one_does_not() {
                 };
                 assert_eq!(ask(first, last, Reply::Yes), Reply::Yes);
                 if first == last {
-                    ask(first + 1, last, Reply::Refused(9));
-                    ask(first, last - 1, Reply::Refused(9));
+                    let turned = |is_out| Reply::Refused(if is_out { 9 } else { 19 });
+                    ask(first + 1, last, turned(last == ticks));
+                    ask(first, last - 1, turned(first == 1));
                     continue;
                 }
                 for (first, last) in [(first + 1, last), (first, last - 1)] {
@@ -245,11 +260,8 @@ fn require(
     suite.require(lent, &Call::Chain(u, v, first, last, buffer), told);
     let mut set = [0; words::SET_WORDS];
     let is_in = match herd::reached(&lent.words, u, first, last, &mut set) {
-        Reached::Animals(_) => Some(set[v as usize / 32] >> (v % 32) & 1 == 1),
-        Reached::Refused(number) => {
-            assert_eq!(number, 9, "{first} {last}");
-            None
-        }
+        Reached::Animals(_) => Ok(set[v as usize / 32] >> (v % 32) & 1 == 1),
+        Reached::Refused(number) => Err(number),
     };
     assert_eq!(answered(is_in), reply, "{u} {v} {first} {last}");
 }
@@ -290,12 +302,16 @@ fn a_journey_fits_where_its_first_and_its_last_contact_lie_in_the_window() {
             ] {
                 require(&mut suite, &lent, &journey, window, Reply::No);
             }
-            for window in [(last, first), (first, ticks + 1), (0, last)] {
+            for window in [(first, ticks + 1), (0, last), (ticks + 1, last), (first, 0)] {
                 require(&mut suite, &lent, &journey, window, Reply::Refused(9));
+            }
+            for window in [(last, first), (first, first - 1), (ticks, 1)] {
+                require(&mut suite, &lent, &journey, window, Reply::Refused(19));
             }
         }
     }
-    suite.at_least(100, &[Export::Reach, Export::Chain, Export::Claimed], &[9]);
+    let asked = [Export::Reach, Export::Chain, Export::Claimed];
+    suite.at_least(100, &asked, &[9, 19]);
 }
 
 #[test]
@@ -315,7 +331,7 @@ fn connected_in_the_windows_that_have_a_contact_each_way() {
             }
         }
     }
-    suite.at_least(500, &[Export::Connected], &[9]);
+    suite.at_least(500, &[Export::Connected], &[9, 19]);
 }
 
 #[test]
@@ -339,7 +355,7 @@ fn windows_and_single_ticks_at_their_limits() {
         for first in cases::window_edges(opening) {
             for last in cases::window_edges(opening) {
                 let window = legal(opening, first, last);
-                accepted += u32::from(window.is_some());
+                accepted += u32::from(window.is_ok());
                 let reply = answered(window.map(|_| true));
                 let leaving = [Contact::new(u, v, first.clamp(1, ticks))];
                 require(&mut suite, &full, &leaving, (first, last), reply);
@@ -348,8 +364,8 @@ fn windows_and_single_ticks_at_their_limits() {
                 let before = set.clone();
                 let reached = herd::reached(&full.words, u, first, last, &mut set);
                 match window {
-                    Some(_) => assert_eq!(reached, Reached::Animals(animals - 1)),
-                    None => assert_eq!((reached, set), (Reached::Refused(9), before)),
+                    Ok(_) => assert_eq!(reached, Reached::Animals(animals - 1)),
+                    Err(number) => assert_eq!((reached, set), (Reached::Refused(number), before)),
                 }
             }
         }
@@ -380,6 +396,51 @@ fn windows_and_single_ticks_at_their_limits() {
     for export in [Export::Earliest, Export::Latest] {
         assert!(suite.times(export, refused) >= 8 * 6, "{export:?}");
         assert!(suite.times(export, |reply| !refused(reply)) > 2_000);
+    }
+}
+
+#[test]
+fn a_tick_out_of_range_is_told_from_a_window_turned_round() {
+    let mut random = Random::new(1_708);
+    let mut suite = Suite::default();
+    for (animals, ticks, carry) in [
+        (2, 2, 1),
+        (3, 5, 2),
+        (4, 3, 7),
+        (2, 40, 256),
+        (3, 1024, 1),
+        (2, 1024, 256),
+    ] {
+        let opening = Opening::new(animals, ticks, carry);
+        let full = Lent::stored(opening, &cases::full_cells(opening));
+        let (u, v) = cases::pair(&mut random, opening);
+        let past = ticks + 1;
+        let windows = [(1, 1), (ticks, ticks), (1, ticks)];
+        let turned = [(2, 1), (ticks, 1), (ticks, ticks - 1)];
+        let in_order = [(0, 0), (0, 1), (0, ticks), (1, past), (ticks, past)];
+        let both_out = [(0, past), (past, 0), (past, past), (0, u32::MAX)];
+        let out_and_turned = [(1, 0), (ticks, 0), (past, 1), (past, ticks), (u32::MAX, 1)];
+        let out = [&in_order[..], &both_out, &out_and_turned].concat();
+        for (asked, reply, short) in [
+            (&windows[..], Reply::Yes, Reply::Refused(10)),
+            (&turned, Reply::Refused(19), Reply::Refused(19)),
+            (&out, Reply::Refused(9), Reply::Refused(9)),
+        ] {
+            for &(first, last) in asked {
+                let leaving = [Contact::new(u, v, first.clamp(1, ticks))];
+                require(&mut suite, &full, &leaving, (first, last), reply);
+                suite.require(&full, &Call::Connected(first, last), reply);
+                let buffer = random.words(animals as usize - 2);
+                let call = Call::Chain(u, v, first, last, buffer);
+                suite.require(&full, &call, short);
+                for (v, number) in [(animals, 7), (u, 8)] {
+                    let call = Call::Reach(u, v, first, last);
+                    suite.require(&full, &call, Reply::Refused(number));
+                }
+                let call = Call::Reached(animals, first, last, random.words(8));
+                suite.require(&full, &call, Reply::Refused(7));
+            }
+        }
     }
 }
 
@@ -423,13 +484,13 @@ fn stored_intervals_fit_by_their_departure_and_their_arrival() {
                     suite.require(&lent, &Call::Reach(0, 1, first, last), reply);
                     suite.require(&lent, &Call::Connected(first, last), reply);
                     let number =
-                        fits.map_or(Reply::Refused(9), |fits| Reply::Animals(u32::from(fits)));
+                        fits.map_or_else(Reply::Refused, |fits| Reply::Animals(u32::from(fits)));
                     let call = Call::Reached(0, first, last, vec![7; 8]);
                     suite.require(&lent, &call, number);
                     let told = match fits {
-                        Some(true) if is_contact => Reply::Chain(1),
-                        Some(_) => Reply::NoJourney,
-                        None => Reply::Refused(9),
+                        Ok(true) if is_contact => Reply::Chain(1),
+                        Ok(_) => Reply::NoJourney,
+                        Err(number) => Reply::Refused(number),
                     };
                     let call = Call::Chain(0, 1, first, last, vec![7; 1]);
                     suite.require(&lent, &call, told);
@@ -441,7 +502,7 @@ fn stored_intervals_fit_by_their_departure_and_their_arrival() {
             }
         }
     }
-    suite.at_least(50, &WITH_WINDOWS, &[9]);
+    suite.at_least(50, &WITH_WINDOWS, &[9, 19]);
 }
 
 #[test]
@@ -494,6 +555,10 @@ fn the_last_tick_of_the_longest_calendar_with_the_longest_carry_time() {
         ((1025, 1025), Reply::Refused(9), Reply::Refused(9)),
         ((1, 1280), Reply::Refused(9), Reply::Refused(9)),
         ((1, 1281), Reply::Refused(9), Reply::Refused(9)),
+        ((1025, 1024), Reply::Refused(9), Reply::Refused(9)),
+        ((1024, 0), Reply::Refused(9), Reply::Refused(9)),
+        ((1024, 1023), Reply::Refused(19), Reply::Refused(19)),
+        ((1024, 1), Reply::Refused(19), Reply::Refused(19)),
     ] {
         require(&mut suite, &lent, &way, (first, last), whole);
         require(&mut suite, &lent, &way[1..], (first, last), second);
@@ -506,6 +571,8 @@ fn the_last_tick_of_the_longest_calendar_with_the_longest_carry_time() {
         (1024, 1024, Answer::Yes),
         (1, 1023, Answer::No),
         (1, 1025, Answer::Refused(9)),
+        (1025, 1, Answer::Refused(9)),
+        (1024, 1, Answer::Refused(19)),
     ] {
         assert_eq!(herd::connected(&table, first, last), answer);
     }

@@ -33,7 +33,7 @@ pub fn judge_join(first: &[u32], second: &[u32]) -> Verdict
     groups::and_then(whole, groups::and_then(other, opening))
 }
 
-// The checks of a question about a pair and a window behind 5 and 6: 7, 8, then 9.
+// The checks of a question about a pair and a window behind 5 and 6: 7, 8, then 9, 19.
 pub fn judge_question(table: &[u32], u: u32, v: u32, first: u32, last: u32) -> Verdict
     ensures { λ r. ⌜ r ≡ verdictOf (ensurePair (now (table .entry)) u v (ensureWindow (now (table .entry)) first last none)) ⌝ }
 {
@@ -42,7 +42,7 @@ pub fn judge_question(table: &[u32], u: u32, v: u32, first: u32, last: u32) -> V
     groups::and_then(pair, window)
 }
 
-// All checks of reach and of a claimed chain: 5, 6, then 7, 8, then 9.
+// All checks of reach and of a claimed chain: 5, 6, then 7, 8, then 9, 19.
 pub fn judge_reach(table: &[u32], u: u32, v: u32, first: u32, last: u32) -> Verdict
     ensures { λ r. ⌜ r ≡ verdictOf (reachRefusal (now (table .entry)) u v first last) ⌝ }
 {
@@ -61,7 +61,7 @@ pub fn judge_moment(table: &[u32], u: u32, v: u32, t: u32) -> Verdict
     groups::and_then(whole, groups::and_then(pair, moment))
 }
 
-// All checks of connected: 5, 6, then 9.
+// All checks of connected: 5, 6, then 9, 19.
 pub fn judge_connected(table: &[u32], first: u32, last: u32) -> Verdict
     ensures { λ r. ⌜ r ≡ verdictOf (connectedRefusal (now (table .entry)) first last) ⌝ }
 {
@@ -70,7 +70,7 @@ pub fn judge_connected(table: &[u32], first: u32, last: u32) -> Verdict
     groups::and_then(whole, window)
 }
 
-// All checks of the animals reached: 5, 6, then 7, then 9.
+// All checks of the animals reached: 5, 6, then 7, then 9, 19.
 pub fn judge_reached(table: &[u32], u: u32, first: u32, last: u32) -> Verdict
     ensures { λ r. ⌜ r ≡ verdictOf (reachedRefusal (now (table .entry)) u first last) ⌝ }
 {
@@ -80,7 +80,7 @@ pub fn judge_reached(table: &[u32], u: u32, first: u32, last: u32) -> Verdict
     groups::and_then(whole, groups::and_then(animal, window))
 }
 
-// All checks of a chain: 5, 6, then 7, 8, then 9, then 10.
+// All checks of a chain: 5, 6, then 7, 8, then 9, 19, then 10.
 pub fn judge_chain(table: &[u32], u: u32, v: u32, first: u32, last: u32, buffer: &[u32]) -> Verdict
     ensures { λ r. ⌜ r ≡ verdictOf (chainRefusal (now (table .entry)) u v first last (now (buffer .entry))) ⌝ }
 {

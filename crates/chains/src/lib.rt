@@ -49,7 +49,7 @@ fn find(table: &[u32], u: u32, v: u32, first: u32, last: u32) -> Steps
 }
 
 // Writes the contact words of the chain from u to v in the window to the front of the buffer, and answers their number;
-// where there is no journey the buffer keeps its words. Refuses with 5, 6, 7, 8, 9, 10.
+// where there is no journey the buffer keeps its words. Refuses with 5, 6, 7, 8, 9, 19, 10.
 pub fn chain(
     table: &[u32],
     u: u32,

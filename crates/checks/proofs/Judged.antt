@@ -3,24 +3,23 @@ use mathlib.Core.Path.{_≡_, refl, sym, ap, ap₂, _∙_}
 use mathlib.Core.Bool.{Bool}
 use mathlib.Core.Option.{Option, none, some}
 use mathlib.Core.List.{List, [], _∷_}
-use Prim.Native.Nat.{ℕ, _+_, _-_, _≤_, _<_}
+use Prim.Native.Nat.{ℕ, _+_, _-_, _<_}
 use native.Mathlib.Omega.{arith}
-use lib.Dec.{ltb, leb}
+use lib.Dec.{ltb}
 use lib.ListN.{length, getD}
-use borrow.Author.Tests.{ltb-true, leb-true}
+use borrow.Author.Tests.{ltb-true}
 use Rattle.journeys.proofs.Tests.{never}
 use Rattle.words.specs.Words.{animalsOf, ticksOf, carryOf}
 use Rattle.rules.specs.declared.Refusal.{Refusal}
-use Rattle.rules.specs.declared.Refusal.the-variants.{NoSuchAnimal, TickOutOfRange, ChainBufferTooShort}
+use Rattle.rules.specs.declared.Refusal.the-variants.{NoSuchAnimal}
 use Rattle.rules.specs.Answers.{ensure}
 use Rattle.rules.specs.Layout.{animals, ticks}
 use Rattle.rules.specs.Checks.{ValidTable, ensureTable}
-use Rattle.rules.specs.Adding.{ensurePair}
-use Rattle.rules.specs.Windows.{lastArrival, windowInRange, inOrder, ensureWindow}
+use Rattle.rules.specs.Windows.{lastArrival}
 use Rattle.rules.specs.Questions.{ensureAnimal}
 use Rattle.rules.proofs.Judged.{ensure-iff}
 use Rattle.rules.proofs.Groups.{Group}
-use Rattle.rules.proofs.Asked.{valid-behind, PairOf, pair-behind}
+use Rattle.rules.proofs.Asked.{valid-behind}
 use Rattle.checks.specs.declared.Verdict.{Verdict}
 use Rattle.checks.specs.declared.Verdict.the-variants.{Passed, Refused}
 use Rattle.checks.specs.Verdicts.{verdictOf, andThen}
@@ -65,15 +64,6 @@ pub animal-behind : (T : List ℕ) (u : ℕ) (o : Option Refusal) → ensureTabl
 animal-behind T u o e =
     let p = valid-behind T e in
     (p .0, ltb-true u (animals T) (ensure-iff (ltb u (animals T)) NoSuchAnimal o .0 (p .1) .0))
-
--- Where nothing is refused, the two are animals of a valid table and the buffer has room for the longest chain.
-pub room-behind : (T : List ℕ) (u v first last : ℕ) (B : List ℕ) → ensureTable T (ensurePair T u v (ensureWindow T first last (ensure (leb (animals T - 1) (length B)) ChainBufferTooShort none))) ≡ none
-    → PairOf T u v × (animals T - 1 ≤ length B)
-room-behind T u v first last B e =
-    let p = pair-behind T u v e in
-    let w = ensure-iff (windowInRange T first last) TickOutOfRange (ensure (inOrder first last) TickOutOfRange (ensure (leb (animals T - 1) (length B)) ChainBufferTooShort none)) .0 (p .1) in
-    let o = ensure-iff (inOrder first last) TickOutOfRange (ensure (leb (animals T - 1) (length B)) ChainBufferTooShort none) .0 (w .1) in
-    (p .0, leb-true (animals T - 1) (length B) (ensure-iff (leb (animals T - 1) (length B)) ChainBufferTooShort none .0 (o .1) .0))
 
 -- ---- the first and the last word of a list
 

@@ -101,12 +101,12 @@ fn window_in_range(table: &[u32], first: u32, last: u32) -> bool
     )
 }
 
-// Check 9, of a window: both ticks in range, then the first not after the last.
+// Checks 9 and 19, of a window: both ticks in range, then the first not after the last.
 pub fn judge_window(table: &[u32], first: u32, last: u32) -> Verdict
     ensures { λ r. ⌜ r ≡ verdictOf (ensureWindow (now (table .entry)) first last none) ⌝ }
 {
     let range = ensure(window_in_range(table, first, last), Refusal::TickOutOfRange);
-    let order = ensure(first <= last, Refusal::TickOutOfRange);
+    let order = ensure(first <= last, Refusal::FirstAfterLast);
     and_then(range, order)
 }
 

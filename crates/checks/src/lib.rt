@@ -41,6 +41,7 @@ pub fn number_of(refusal: Refusal) -> u32
         Refusal::TallyFull => 16,
         Refusal::DifferentOpenings => 17,
         Refusal::IllegalStay => 18,
+        Refusal::FirstAfterLast => 19,
     }
 }
 

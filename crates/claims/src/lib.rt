@@ -41,7 +41,7 @@ fn form_journey(table: &[u32], u: u32, v: u32, first: u32, last: u32, chain: &[u
     follows(table, u, v, first, last, chain)
 }
 
-// Whether the words form a journey of held contacts from u to v that fits the window. Refuses with 5, 6, 7, 8, 9.
+// Whether the words form a journey of held contacts from u to v that fits the window. Refuses with 5, 6, 7, 8, 9, 19.
 pub fn claimed(table: &[u32], u: u32, v: u32, first: u32, last: u32, chain: &[u32]) -> AskAnswer
     ensures { λ r. ⌜ r ≡ claimedAnswer (now (table .entry)) u v first last (now (chain .entry)) ⌝ }
 {

@@ -15,7 +15,7 @@ use rules::IntervalAnswer;
 use rules::ReachedAnswer;
 use rules::SetAnswer;
 
-// Whether v can have been reached from u in the window, on a table that passed 5 and 6. Refuses with 7, 8, 9.
+// Whether v can have been reached from u in the window, on a table that passed 5 and 6. Refuses with 7, 8, 9, 19.
 pub fn reach_checked(table: &[u32], u: u32, v: u32, first: u32, last: u32) -> AskAnswer
     requires { ⌜ ValidTable (now table) ⌝ }
     ensures { λ r. ⌜ r ≡ reachAnswer (now (table .entry)) u v first last ⌝ }
@@ -32,7 +32,7 @@ pub fn reach_checked(table: &[u32], u: u32, v: u32, first: u32, last: u32) -> As
     }
 }
 
-// Whether v can have been reached from u in the window. Refuses with 5, 6, 7, 8, 9.
+// Whether v can have been reached from u in the window. Refuses with 5, 6, 7, 8, 9, 19.
 pub fn reach(table: &[u32], u: u32, v: u32, first: u32, last: u32) -> AskAnswer
     ensures { λ r. ⌜ r ≡ reachAnswer (now (table .entry)) u v first last ⌝ }
 {
@@ -78,7 +78,7 @@ pub fn latest(table: &[u32], u: u32, v: u32, last: u32) -> IntervalAnswer
     }
 }
 
-// Whether each animal reaches each other one in the window. Refuses with 5, 6, 9.
+// Whether each animal reaches each other one in the window. Refuses with 5, 6, 9, 19.
 pub fn connected(table: &[u32], first: u32, last: u32) -> AskAnswer
     ensures { λ r. ⌜ r ≡ connectedAnswer (now (table .entry)) first last ⌝ }
 {
@@ -94,7 +94,7 @@ pub fn connected(table: &[u32], first: u32, last: u32) -> AskAnswer
     }
 }
 
-// The animals reached from u in the window. Refuses with 5, 6, 7, 9.
+// The animals reached from u in the window. Refuses with 5, 6, 7, 9, 19.
 pub fn reached(table: &[u32], u: u32, first: u32, last: u32) -> ReachedAnswer
     ensures { λ r. ⌜ r .answer ≡ reachedAnswer (now (table .entry)) u first last ⌝ }
     ensures { λ r. ⌜ r .set .words ≡ reachedWords (now (table .entry)) u first last ⌝ }

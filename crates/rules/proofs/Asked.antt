@@ -4,13 +4,14 @@ use mathlib.Core.Logic.{_↔_}
 use mathlib.Core.Bool.{Bool, true, false, not, _&&_}
 use mathlib.Core.Option.{Option, none, some}
 use mathlib.Core.List.{List}
-use Prim.Native.Nat.{ℕ, _+_, _≤_, _<_}
-use lib.Dec.{ltb, eqb}
-use borrow.Author.Tests.{lt-ltb, ltb-true, ne-eqb}
+use Prim.Native.Nat.{ℕ, _+_, _-_, _≤_, _<_}
+use lib.ListN.{length}
+use lib.Dec.{leb, ltb, eqb}
+use borrow.Author.Tests.{leb-true, lt-ltb, ltb-true, ne-eqb}
 use Rattle.journeys.specs.Journey.{Contacts, Interval, interval}
 use Rattle.journeys.proofs.Tests.{never, untrue}
 use Rattle.rules.specs.declared.Refusal.{Refusal}
-use Rattle.rules.specs.declared.Refusal.the-variants.{NotOpen, NotWellFormed, NoSuchAnimal, SameAnimal, TickOutOfRange}
+use Rattle.rules.specs.declared.Refusal.the-variants.{NotOpen, NotWellFormed, NoSuchAnimal, SameAnimal, TickOutOfRange, FirstAfterLast, ChainBufferTooShort}
 use Rattle.rules.specs.declared.AskAnswer.the-variants.{Yes, No}
 use Rattle.rules.specs.declared.Ends.{Ends}
 use Rattle.rules.specs.declared.IntervalAnswer.the-variants.{At, Nothing}
@@ -21,7 +22,8 @@ use Rattle.rules.specs.Checks.{isOpen, wellFormed, ensureTable, ValidTab
 use Rattle.rules.specs.Adding.{ensurePair}
 use Rattle.rules.specs.Questions.{ensureAnimal, reachRefusal, momentRefusal, connectedRefusal, reachedRefusal}
 use Rattle.rules.specs.Fresh.{Fresh}
-use Rattle.rules.specs.Windows.{lastArrival, ensureWindow, IsWindow, IsPair}
+use Rattle.rules.specs.Chains.{chainRefusal}
+use Rattle.rules.specs.Windows.{lastArrival, windowInRange, inOrder, ensureWindow, IsWindow, IsPair}
 use Rattle.rules.proofs.Folds.{and-left, and-right, and-intro}
 use Rattle.rules.proofs.Judged.{ensure-iff, within-iff}
 use Rattle.rules.proofs.Windows.{window-accepted}
@@ -139,3 +141,15 @@ pair-behind T u v {o} e =
       },
       s .1,
     )
+
+-- A call for a chain that is not refused: the two are animals of a valid table, and the buffer has room for the longest chain.
+pub room-behind : (T : List ℕ) (u v first last : ℕ) (B : List ℕ) → chainRefusal T u v first last B ≡ none → PairOf T u v × (animals T - 1 ≤ length B)
+unfolding chainRefusal
+room-behind T u v first last B e =
+    let p = pair-behind T u v e in
+    let w = ensure-iff (windowInRange T first last) TickOutOfRange (ensure (inOrder first last) FirstAfterLast room) .0 (p .1) in
+    let o = ensure-iff (inOrder first last) FirstAfterLast room .0 (w .1) in
+    (p .0, leb-true (animals T - 1) (length B) (ensure-iff (leb (animals T - 1) (length B)) ChainBufferTooShort none .0 (o .1) .0))
+  where
+    room : Option Refusal
+    room = ensure (leb (animals T - 1) (length B)) ChainBufferTooShort none

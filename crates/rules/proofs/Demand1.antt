@@ -15,7 +15,7 @@ use Rattle.rules.specs.declared.Refusal.{Refusal}
 use Rattle.rules.specs.declared.OpenAnswer.the-variants.{Opened, Refused as OpenRefused}
 use Rattle.rules.specs.declared.AddAnswer.{AddAnswer}
 use Rattle.rules.specs.declared.AddAnswer.the-variants.{New, Known, Refused as AddRefused}
-use Rattle.rules.specs.declared.Refusal.the-variants.{NotOpen, NotWellFormed, NoSuchAnimal, SameAnimal, TickOutOfRange, ChainBufferTooShort, LogBufferTooShort, TallyFull}
+use Rattle.rules.specs.declared.Refusal.the-variants.{NotOpen, NotWellFormed, NoSuchAnimal, SameAnimal, TickOutOfRange, LogBufferTooShort, TallyFull}
 use Rattle.rules.specs.declared.Tally.{Tally}
 use Rattle.rules.specs.declared.Question.{Question}
 use Rattle.rules.specs.declared.ListAnswer.the-variants.{Refused as ListRefused}
@@ -34,7 +34,6 @@ use Rattle.rules.specs.Fresh.{Fresh}
 use Rattle.rules.specs.CallLists.{LegalOf, Accepted}
 use Rattle.rules.specs.Reading.{loggedContacts, readRefusal, different, readAnswer, readLeaves}
 use Rattle.rules.specs.Folds.{countBelow, within}
-use Rattle.rules.specs.Windows.{windowInRange, inOrder}
 use Rattle.rules.specs.Questions.{setAnswerOf, isReached, setWords, reachedRefusal, reachedAnswer, reachedWords, reachedCount, setOver, reachedLeaves}
 use Rattle.rules.specs.Chains.{nowhere, there, leadsOn, leads, Lowest, nobody, animal, lowest, prepend, follow, chainFrom, chainOf, chainRefusal, chainAnswerOf, chainAnswer, chainWords, chainLeaves}
 use Rattle.rules.specs.Counting.{fullTally, tallySum, countedAnswer, countedLeaves, raised, countedTally}
@@ -43,6 +42,8 @@ use Rattle.rules.specs.Demand1.{Demand1}
 use Rattle.rules.proofs.Decode.{table-length, table-passes}
 use Rattle.rules.proofs.Sound.{table-sizes, passes-good, opens-length}
 use Rattle.rules.proofs.Judged.{ensure-iff, unless-cases, open-iff, add-iff, accepted-none}
+use Rattle.rules.proofs.Numbers.{numbers-differ}
+use Rattle.rules.proofs.Asked.{room-behind}
 use Rattle.rules.proofs.Fresh.{add-good, empty-good, fresh-length, fresh-passes}
 use Rattle.rules.proofs.Runs.{run-fresh}
 use Rattle.rules.proofs.Joining.{join-kept, join-length, join-valid}
@@ -317,21 +318,9 @@ chain-kept T u v first last B r = go (chainRefusal T u v first last B) (chainOf 
     go none (some l) e = never cc
     go (some s) c e = refl
 
--- A chain that is shown has room in its buffer.
-chain-room : (T : List ℕ) (u v first last : ℕ) (B : List ℕ) → chainRefusal T u v first last B ≡ none → animals T - 1 ≤ length B
-unfolding chainRefusal
-chain-room T u v first last B e =
-    let p = ensure-iff (isOpen T) NotOpen _ .0 e in
-    let q = ensure-iff (wellFormed T) NotWellFormed _ .0 (p .1) in
-    let a = ensure-iff (ltb u (animals T) && ltb v (animals T)) NoSuchAnimal _ .0 (q .1) in
-    let b = ensure-iff (not (eqb u v)) SameAnimal _ .0 (a .1) in
-    let c = ensure-iff (windowInRange T first last) TickOutOfRange _ .0 (b .1) in
-    let d = ensure-iff (inOrder first last) TickOutOfRange _ .0 (c .1) in
-    leb-true (animals T - 1) (length B) (ensure-iff (leb (animals T - 1) (length B)) ChainBufferTooShort none .0 (d .1) .0)
-
 chain-length : (T : List ℕ) (u v first last : ℕ) (B : List ℕ) → length (chainLeaves T u v first last B) ≡ length B
 unfolding chainLeaves
-chain-length T u v first last B = go (chainRefusal T u v first last B) (chainOf T u v first last) (chain-room T u v first last B) (chain-small T u v first last)
+chain-length T u v first last B = go (chainRefusal T u v first last B) (chainOf T u v first last) (λ e. room-behind T u v first last B e .1) (chain-small T u v first last)
   where
     go : (o : Option Refusal) (c : Option (List Contact)) → (o ≡ none → animals T - 1 ≤ length B) → size c ≤ animals T - 1 → length (unless o (chainWords c B) B) ≡ length B
     go none none h k = refl
@@ -341,6 +330,7 @@ chain-length T u v first last B = go (chainRefusal T u v first last B) (chainOf 
 pub demand1 : Demand1
 demand1 =
     record {
+      numbers-differ = numbers-differ;
       open-refused = open-kept;
       add-refused = add-kept;
       write-refused = write-kept;

@@ -1,19 +1,23 @@
--- Groups of checks: one refuses by itself, or leaves it to the checks behind it.
-use mathlib.Core.Path.{_≡_, refl, sym, _∙_}
-use mathlib.Core.Logic.{_≢_}
+-- Groups of checks: one refuses by itself, or leaves it to the checks behind it; and what a refusal says of the checks ahead of it.
+use mathlib.Core.Path.{_≡_, refl, sym, ap, _∙_}
+use mathlib.Core.Logic.{_↔_}
 use mathlib.Core.Bool.{Bool, true, false, not, _&&_}
 use mathlib.Core.Option.{Option, none, some}
 use mathlib.Core.List.{List}
-use Prim.Native.Nat.{ℕ}
+use Prim.Native.Nat.{ℕ, _≤_, _<_}
+use native.Mathlib.Omega.{arith}
 use lib.Dec.{ltb, eqb}
-use Rattle.journeys.proofs.Tests.{never}
+use Rattle.journeys.proofs.Tests.{never, untrue}
 use Rattle.rules.specs.declared.Refusal.{Refusal}
-use Rattle.rules.specs.declared.Refusal.the-variants.{NotOpen, NotWellFormed, NoSuchAnimal, SameAnimal, TickOutOfRange}
-use Rattle.rules.specs.Answers.{ensure}
+use Rattle.rules.specs.declared.Refusal.the-variants.{NotOpen, NotWellFormed, NoSuchAnimal, SameAnimal, TickOutOfRange, FirstAfterLast}
+use Rattle.rules.specs.Answers.{numberOf, ensure}
 use Rattle.rules.specs.Layout.{animals}
 use Rattle.rules.specs.Checks.{isOpen, wellFormed, ValidTable, ensureTable}
 use Rattle.rules.specs.Adding.{ensurePair}
-use Rattle.rules.specs.Windows.{windowInRange, inOrder, ensureWindow}
+use Rattle.rules.specs.Windows.{windowInRange, inOrder, ensureWindow, IsPair}
+use Rattle.rules.specs.Questions.{ensureAnimal}
+use Rattle.rules.proofs.Folds.{both-iff}
+use Rattle.rules.proofs.Judged.{below-iff, differ-iff}
 
 -- A group of checks refuses by itself, or leaves it to those behind it.
 pub record Group (f : Option Refusal → Option Refusal) : Type 0 where
@@ -52,17 +56,56 @@ pub pair-group : (T : List ℕ) (u v : ℕ) → Group (ensurePair T u v)
 pair-group T u v = both-groups (one-check (ltb u (animals T) && ltb v (animals T)) NoSuchAnimal) (one-check (not (eqb u v)) SameAnimal)
 
 pub window-group : (T : List ℕ) (first last : ℕ) → Group (ensureWindow T first last)
-window-group T first last = both-groups (one-check (windowInRange T first last) TickOutOfRange) (one-check (inOrder first last) TickOutOfRange)
+window-group T first last = both-groups (one-check (windowInRange T first last) TickOutOfRange) (one-check (inOrder first last) FirstAfterLast)
 
 -- On a table that passed 5 and 6, the checks are those behind them.
 pub behind-valid : (T : List ℕ) → ValidTable T → (o : Option Refusal) → ensureTable T o ≡ o
 behind-valid T p o = rw (p .opens, p .formed) refl
 
--- Any other refusal than 5 and 6 was given behind them, on a table that passes both.
-pub refused-behind : (T : List ℕ) (o : Option Refusal) (r : Refusal) → r ≢ NotOpen → r ≢ NotWellFormed → ensureTable T o ≡ some r → ValidTable T × (o ≡ some r)
-refused-behind T o r p q e = go (isOpen T) (wellFormed T) refl refl e
+-- ---- checks ahead of others
+
+-- The checks f, with refusals numbered up to 8, pass exactly when P holds, and a refusal with a higher number was given behind them.
+pub record Ahead (f : Option Refusal → Option Refusal) (P : Type 0) : Type 0 where
+  pub behind : (r : Refusal) → 8 < numberOf r → (o : Option Refusal) → (f o ≡ some r) ↔ (P × (o ≡ some r))
+
+-- One check.
+one-ahead : {P : Type 0} (b : Bool) (q : Refusal) → numberOf q ≤ 8 → (b ≡ true) ↔ P → Ahead (ensure b q) P
+one-ahead {P} b q low w = record { behind = go b w }
   where
-    go : (a b : Bool) → isOpen T ≡ a → wellFormed T ≡ b → ensure a NotOpen (ensure b NotWellFormed o) ≡ some r → ValidTable T × (o ≡ some r)
-    go true true f g h = (record { opens = f; formed = g }, h)
-    go true false f g h = let z : r ≡ NotWellFormed = cc in absurd (q z)
-    go false b f g h = let z : r ≡ NotOpen = cc in absurd (p z)
+    go : (a : Bool) → (a ≡ true) ↔ P → (r : Refusal) → 8 < numberOf r → (o : Option Refusal) → (ensure a q o ≡ some r) ↔ (P × (o ≡ some r))
+    go true m r h o = (λ e. (m .0 refl, e), λ p. p .1)
+    go false m r h o = (λ e. let z : q ≡ r = cc in let n = ap numberOf z in absurd (omega arith), λ p. untrue (m .1 (p .0)))
+
+-- Two groups, one after the other, where R says that both pass.
+both-ahead : {f g : Option Refusal → Option Refusal} {P Q R : Type 0} → Ahead f P → Ahead g Q → (P → Q → R) → (R → P × Q) → Ahead (λ o. f (g o)) R
+both-ahead {f} {g} {P} {Q} {R} p q make split = record { behind = λ r h o. (to r h o, of r h o) }
+  where
+    to : (r : Refusal) → 8 < numberOf r → (o : Option Refusal) → f (g o) ≡ some r → R × (o ≡ some r)
+    to r h o e =
+        let a = p .behind r h (g o) .0 e in
+        let b = q .behind r h o .0 (a .1) in
+        (make (a .0) (b .0), b .1)
+
+    of : (r : Refusal) → 8 < numberOf r → (o : Option Refusal) → R × (o ≡ some r) → f (g o) ≡ some r
+    of r h o x = let s = split (x .0) in p .behind r h (g o) .1 (s .0, q .behind r h o .1 (s .1, x .1))
+
+-- So said, as a pair.
+pub then-ahead : {f g : Option Refusal → Option Refusal} {P Q : Type 0} → Ahead f P → Ahead g Q → Ahead (λ o. f (g o)) (P × Q)
+then-ahead p q = both-ahead p q (λ a b. (a, b)) (λ r. r)
+
+-- 5 and 6.
+pub table-ahead : (T : List ℕ) → Ahead (ensureTable T) (ValidTable T)
+table-ahead T =
+    both-ahead (one-ahead (isOpen T) NotOpen (omega arith) (λ e. e, λ e. e)) (one-ahead (wellFormed T) NotWellFormed (omega arith) (λ e. e, λ e. e))
+    (λ a b. record { opens = a; formed = b }) (λ p. (p .opens, p .formed))
+
+-- 7 and 8.
+pub pair-ahead : (T : List ℕ) (u v : ℕ) → Ahead (ensurePair T u v) (IsPair (animals T) u v)
+pair-ahead T u v =
+    both-ahead (one-ahead (ltb u (animals T) && ltb v (animals T)) NoSuchAnimal (omega arith) (both-iff (below-iff u (animals T)) (below-iff v (animals T))))
+    (one-ahead (not (eqb u v)) SameAnimal (omega arith) (differ-iff u v))
+    (λ a b. record { from-below = a .0; to-below = a .1; apart = b }) (λ p. ((p .from-below, p .to-below), p .apart))
+
+-- 7, of one animal.
+pub animal-ahead : (T : List ℕ) (u : ℕ) → Ahead (ensureAnimal T u) (u < animals T)
+animal-ahead T u = one-ahead (ltb u (animals T)) NoSuchAnimal (omega arith) (below-iff u (animals T))

@@ -27,7 +27,7 @@ use Rattle.rules.specs.Joining.{ensureSameOpening, joinRefusal, joinAnsw
 use Rattle.rules.specs.JoinRule.{JoinCounts, JoinRule}
 use Rattle.rules.proofs.Judged.{ensure-iff}
 use Rattle.rules.proofs.Asked.{valid-behind}
-use Rattle.rules.proofs.Groups.{table-group, behind-valid, refused-behind}
+use Rattle.rules.proofs.Groups.{table-group, behind-valid, table-ahead}
 use Rattle.rules.proofs.Laid.{laid-first}
 use Rattle.rules.proofs.Fresh.{fresh-laid, fresh-animals, fresh-ticks, fresh-passes, fresh-map, fresh-unique}
 use Rattle.rules.proofs.Sorted.{earlier-irreflexive, earlier-transitive, sorted-once}
@@ -70,9 +70,9 @@ second-judged : (F S : List ℕ) (r : Refusal) → ValidTable F → ensureTable 
 unfolding joinAnswer joinRefusal
 second-judged F S r p e = rw (behind-valid F p (ensureTable S (ensureSameOpening F S none)), table-group S .refuses r e (ensureSameOpening F S none)) refl
 
--- 17 is neither 5 nor 6.
+-- 17 is given behind 5 and 6.
 not-seventeen : (T : List ℕ) (o : Option Refusal) → ensureTable T o ≡ some DifferentOpenings → ValidTable T × (o ≡ some DifferentOpenings)
-not-seventeen T o = refused-behind T o DifferentOpenings (λ e. never cc) (λ e. never cc)
+not-seventeen T o = table-ahead T .behind DifferentOpenings (omega arith) o .0
 
 openings-differ : (F S : List ℕ) → (joinAnswer F S ≡ Refused DifferentOpenings) ↔ (ValidTable F × ValidTable S × (getD F 0 0 ≢ getD S 0 0))
 unfolding joinAnswer joinRefusal

@@ -4,6 +4,7 @@ pub mod Sound
 pub mod Changes
 pub mod Judged
 pub mod Groups
+pub mod Numbers
 pub mod CountedExamples
 pub mod Counted
 pub mod Laid
@@ -48,4 +49,5 @@ pub mod LogExamples
 pub mod JoinExamples
 pub mod StayExamples
 pub mod ListRule
+pub mod TickRefusals
 pub mod Promised

@@ -1,5 +1,6 @@
 -- The list's definitions meet its rule, and the list on the session comes out as written.
-use mathlib.Core.Path.{refl, ap}
+use mathlib.Core.Path.{_≡_, refl, sym, ap, subst}
+use mathlib.Core.Option.{none}
 use mathlib.Core.List.{List, [], _∷_, map}
 use Prim.Native.Nat.{ℕ, zero, suc, _<_}
 use native.Mathlib.Omega.{arith}
@@ -10,7 +11,7 @@ use Rattle.words.specs.Layout.{isOf}
 use Rattle.rules.specs.declared.Question.{Question}
 use Rattle.rules.specs.Folds.{flat, allBelow}
 use Rattle.rules.specs.Layout.{cellWords, tableWords, cellAt, cellOf, cellsOf}
-use Rattle.rules.specs.Checks.{isOpen, rowWellFormed, rowsWellFormed, allUnused, cellWellFormed, wellFormed}
+use Rattle.rules.specs.Checks.{isOpen, rowWellFormed, rowsWellFormed, allUnused, cellWellFormed, wellFormed, ensureTable}
 use Rattle.rules.specs.Opening.{openRefusal, openLeaves}
 use Rattle.rules.specs.Adding.{stands, addRefusal, addedCells, addLeaves, holds}
 use Rattle.rules.specs.Questions.{reaches, reachRefusal, reachAnswer}
@@ -32,11 +33,16 @@ asked-filled T q =
       refused = λ k e. ap recordAnswerOf e;
     }
 
--- So is each record of a list in its place.
-each-asked : (T : List ℕ) (l : List Question) (i : ℕ) → i < length l → (d : Question) → Filled T (getD l i d) (getD (map (asked T) l) i d)
-each-asked T [] i h d = absurd (omega arith)
-each-asked T (q ∷ l) zero h d = asked-filled T q
-each-asked T (q ∷ l) (suc i) h d = each-asked T l i (omega arith) d
+-- Each record of a list is asked in its place.
+asked-at : (T : List ℕ) (l : List Question) (i : ℕ) → i < length l → (d : Question) → getD (map (asked T) l) i d ≡ asked T (getD l i d)
+asked-at T [] i h d = absurd (omega arith)
+asked-at T (q ∷ l) zero h d = refl
+asked-at T (q ∷ l) (suc i) h d = asked-at T l i (omega arith) d
+
+-- So it is in a list that is answered.
+pub answered-at : (T : List ℕ) → ensureTable T none ≡ none → (l : List Question) (i : ℕ) → i < length l → (d : Question) → getD (listLeaves T l) i d ≡ asked T (getD l i d)
+unfolding listLeaves
+answered-at T e l i h d = rw e (asked-at T l i h d)
 
 -- The rule holds of all lists.
 pub list-rule : ListRule
@@ -45,7 +51,7 @@ list-rule =
     record {
       list-refused = λ T l k e. (rw e refl, rw e refl);
       list-answered = λ T l e. (rw e refl, rw e (length-map l (asked T)));
-      each-filled = λ T l e i h d. rw e (each-asked T l i h d);
+      each-filled = λ T l e i h d. subst (Filled T (getD l i d)) (sym (answered-at T e l i h d)) (asked-filled T (getD l i d));
     }
 
 -- The examples come out by computation.

@@ -10,6 +10,7 @@ use Rattle.rules.proofs.Joining.{join-rule}
 use Rattle.rules.proofs.Stays.{stay-rule}
 use Rattle.rules.proofs.TableCalls.{table-calls}
 use Rattle.rules.proofs.Windows.{window-rule}
+use Rattle.rules.proofs.TickRefusals.{tick-refusals}
 use Rattle.rules.proofs.ListRule.{list-rule, list-examples}
 use Rattle.rules.proofs.EarliestLatest.{stored-answers}
 use Rattle.rules.proofs.Claims.{claims-judged}
@@ -38,6 +39,7 @@ promised =
       stay-rule = stay-rule;
       table-calls = table-calls;
       window-rule = window-rule;
+      tick-refusals = tick-refusals;
       list-rule = list-rule;
       stored-answers = stored-answers;
       claims-judged = claims-judged;

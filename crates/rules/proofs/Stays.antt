@@ -30,7 +30,7 @@ use Rattle.rules.specs.StayRule.{IsStay, AreStays, FirstIllegal, stayWor
 use Rattle.rules.proofs.Folds.{both-iff, any-iff, flat-same}
 use Rattle.rules.proofs.Judged.{none-some, ensure-iff, below-iff, most-iff, equal-iff, differ-iff, within-iff}
 use Rattle.rules.proofs.Asked.{valid-behind}
-use Rattle.rules.proofs.Groups.{none-is-not-some, table-group, behind-valid, refused-behind}
+use Rattle.rules.proofs.Groups.{none-is-not-some, table-group, behind-valid, table-ahead}
 use Rattle.rules.proofs.Sorted.{sorted-unique, earlier-irreflexive, earlier-transitive}
 use Rattle.rules.proofs.LogOrder.{order-sorted, order-iff, order-few}
 use Rattle.rules.proofs.Fresh.{fresh-animals, fresh-ticks, fresh-passes, fresh-map}
@@ -305,7 +305,7 @@ module _ (T W : List ℕ) where
 
       to : staysAnswerOf (ensureTable T (ensureStays T W none)) (Added (newAdds engine T (stayContacts T W))) ≡ Refused IllegalStay → ValidTable T × Illegal
       to e =
-          let a = refused-behind T (ensureStays T W none) IllegalStay (λ z. never cc) (λ z. never cc) (refused _ e) in
+          let a = table-ahead T .behind IllegalStay (omega arith) (ensureStays T W none) .0 (refused _ e) in
           (a .0, ⊎-elim inl (λ z. inr (incomplete (isWhole W) refl z)) (each-first (animals T) (ticks T) (staysOf W) (a .1)))
 
       no-stays : Illegal → ¬ AreStays (animals T) (ticks T) W

@@ -1,22 +1,21 @@
 -- Fitting a window, said of a journey's contacts and of the two ends of its interval; and which ticks pass the checks.
-use mathlib.Core.Path.{_≡_, refl, sym, ap, subst}
-use mathlib.Core.Logic.{_↔_, _⊎_, ⊎-elim}
-use mathlib.Core.Bool.{Bool, true, false}
+use mathlib.Core.Path.{_≡_, refl, sym, ap, _∙_, subst}
+use mathlib.Core.Logic.{_↔_, _⊎_, inl, inr, ⊎-elim}
+use mathlib.Core.Bool.{Bool, _&&_}
 use mathlib.Core.Option.{Option, some}
 use mathlib.Core.List.{List, _∷_, List·Memᴰ, List·Memᴰ·head, List·Memᴰ·tail, List·Memᴰ·cases-cons, List·Memᴰ·not-nil}
-use Prim.Native.Nat.{ℕ, _+_, _≤_}
+use Prim.Native.Nat.{ℕ, _+_, _≤_, _<_}
 use native.Mathlib.Omega.{arith}
 use Rattle.journeys.specs.Journey.{Contact, contact, Contacts, Interval, JourneyTo, single, onward, Journey, contactsOf}
+use Rattle.journeys.proofs.Tests.{Outcome, holds, fails, le-outcome, and-outcome}
 use Rattle.journeys.proofs.Reach.{journey-carries}
 use Rattle.rules.specs.declared.Refusal.{Refusal}
-use Rattle.rules.specs.declared.Refusal.the-variants.{TickOutOfRange}
+use Rattle.rules.specs.declared.Refusal.the-variants.{TickOutOfRange, FirstAfterLast}
 use Rattle.rules.specs.Answers.{ensure}
 use Rattle.rules.specs.Folds.{within}
 use Rattle.rules.specs.Layout.{ticks}
-use Rattle.rules.specs.Windows.{InWindow, Fits, FitsWindow, windowInRange, inOrder, ensureWindow, lastArrival, IsWindow}
+use Rattle.rules.specs.Windows.{InRange, OutOfRange, IsWindow, TickOut, TurnedRound, inOrder, ensureWindow, InWindow, Fits, FitsWindow, lastArrival}
 use Rattle.rules.specs.WindowRule.{AllInWindow, WindowRule}
-use Rattle.rules.proofs.Folds.{both-iff}
-use Rattle.rules.proofs.Judged.{most-iff, within-iff}
 
 -- ---- the contacts of a journey
 
@@ -108,43 +107,69 @@ fits-iff {S} {δ} {u} {v} {first} {last} = (
 
 -- ---- the checks
 
--- Passed or not, by the test and its meaning.
-check-passes : {P : Type 0} {b : Bool} → (b ≡ true) ↔ P → (r : Refusal) (o : Option Refusal) → P → ensure b r o ≡ o
-check-passes {P} {b} w r o p = rw (w .1 p) refl
+-- One check, by what its test says.
+check-passes : {P Q : Type 0} {b : Bool} → (Q → P → ⊥) → Outcome P Q b → (r : Refusal) (o : Option Refusal) → P → ensure b r o ≡ o
+check-passes x (holds p) r o h = refl
+check-passes x (fails q) r o h = absurd (x q h)
 
-check-refuses : {P : Type 0} (b : Bool) → (b ≡ true) ↔ P → (r : Refusal) (o : Option Refusal) → (¬ P) → ensure b r o ≡ some r
-check-refuses true w r o n = absurd (n (w .0 refl))
-check-refuses false w r o n = refl
+check-refuses : {P Q : Type 0} {b : Bool} → (Q → P → ⊥) → Outcome P Q b → (r : Refusal) (o : Option Refusal) → Q → ensure b r o ≡ some r
+check-refuses x (holds p) r o h = absurd (x h p)
+check-refuses x (fails q) r o h = refl
+
+-- A tick out of its range is not in it, and so not both of two ticks of which one is out.
+pub not-in-range : {end t : ℕ} → OutOfRange end t → InRange end t → ⊥
+not-in-range (inl h) p = omega arith
+not-in-range (inr h) p = omega arith
+
+not-both : {τ first last : ℕ} → TickOut τ first last → InRange τ first × InRange τ last → ⊥
+not-both n p = ⊎-elim (λ h. not-in-range h (p .0)) (λ h. not-in-range h (p .1)) n
+
+pub range-outcome : (end t : ℕ) → Outcome (InRange end t) (OutOfRange end t) (within 1 t end)
+range-outcome end t = and-outcome (le-outcome 1 t) (le-outcome t end)
+
+ranges-outcome : (τ first last : ℕ) → Outcome (InRange τ first × InRange τ last) (TickOut τ first last) (within 1 first τ && within 1 last τ)
+ranges-outcome τ first last = and-outcome (range-outcome τ first) (range-outcome τ last)
+
+pub any-two : (τ first last : ℕ) → IsWindow τ first last ⊎ TickOut τ first last ⊎ TurnedRound τ first last
+any-two τ first last = go (ranges-outcome τ first last) (le-outcome first last)
+  where
+    go : {a b : Bool} → Outcome (InRange τ first × InRange τ last) (TickOut τ first last) a → Outcome (first ≤ last) (last < first) b
+        → IsWindow τ first last ⊎ TickOut τ first last ⊎ TurnedRound τ first last
+    go (holds (f, l)) (holds h) = inl (record { from-one = omega arith; in-order = omega arith; to-last = omega arith })
+    go (holds (f, l)) (fails h) = inr (inr (record { first-in-range = omega arith; last-in-range = omega arith; after = omega arith }))
+    go (fails n) o = inr (inl n)
 
 module _ (T : List ℕ) (first last : ℕ) where
-  -- Both ticks are in range.
-  abbrev InRange : Type 0
-  InRange = ((1 ≤ first) × (first ≤ ticks T)) × ((1 ≤ last) × (last ≤ ticks T))
-
-  range-iff : (windowInRange T first last ≡ true) ↔ InRange
-  range-iff = both-iff (within-iff 1 first (ticks T)) (within-iff 1 last (ticks T))
+  -- Where both ticks are in range, the order decides.
+  by-order : InRange (ticks T) first × InRange (ticks T) last → (o : Option Refusal) → ensureWindow T first last o ≡ ensure (inOrder first last) FirstAfterLast o
+  by-order p o = check-passes not-both (ranges-outcome (ticks T) first last) TickOutOfRange _ p
 
   pub window-accepted : IsWindow (ticks T) first last → (o : Option Refusal) → ensureWindow T first last o ≡ o
-  window-accepted w o = rw (range-iff .1 ranged, most-iff first last .1 (w .in-order)) refl
-    where
-      ranged : InRange
-      ranged = let a = w .from-one in let b = w .in-order in let c = w .to-last in ((omega arith, omega arith), (omega arith, omega arith))
+  window-accepted w o =
+      let a = w .from-one in
+      let b = w .in-order in
+      let c = w .to-last in
+      by-order (omega arith, omega arith) o ∙ check-passes (λ h k. omega arith) (le-outcome first last) FirstAfterLast o b
 
-  window-refused : (¬ IsWindow (ticks T) first last) → (o : Option Refusal) → ensureWindow T first last o ≡ some TickOutOfRange
-  window-refused n o = go (windowInRange T first last) (inOrder first last) range-iff (most-iff first last)
-    where
-      go : (a b : Bool) → (a ≡ true) ↔ InRange → (b ≡ true) ↔ (first ≤ last) → ensure a TickOutOfRange (ensure b TickOutOfRange o) ≡ some TickOutOfRange
-      go true true p q = absurd (n (record { from-one = p .0 refl .0 .0; in-order = q .0 refl; to-last = p .0 refl .1 .1 }))
-      go true false p q = refl
-      go false b p q = refl
+  pub window-out : TickOut (ticks T) first last → (o : Option Refusal) → ensureWindow T first last o ≡ some TickOutOfRange
+  window-out n o = check-refuses not-both (ranges-outcome (ticks T) first last) TickOutOfRange _ n
+
+  pub window-turned : TurnedRound (ticks T) first last → (o : Option Refusal) → ensureWindow T first last o ≡ some FirstAfterLast
+  window-turned t o =
+      let f = t .first-in-range in
+      let l = t .last-in-range in
+      let a = t .after in
+      by-order (omega arith, omega arith) o ∙ check-refuses (λ h k. omega arith) (le-outcome first last) FirstAfterLast o (omega arith)
 
 pub window-rule : WindowRule
 window-rule =
     record {
+      any-two = any-two;
       window-accepted = window-accepted;
-      window-refused = window-refused;
-      moment-accepted = λ T t h o. check-passes (within-iff 1 t (lastArrival T)) TickOutOfRange o h;
-      moment-refused = λ T t n o. check-refuses (within 1 t (lastArrival T)) (within-iff 1 t (lastArrival T)) TickOutOfRange o n;
+      window-out = window-out;
+      window-turned = window-turned;
+      moment-accepted = λ T t h o. check-passes not-in-range (range-outcome (lastArrival T) t) TickOutOfRange o h;
+      moment-refused = λ T t h o. check-refuses not-in-range (range-outcome (lastArrival T) t) TickOutOfRange o h;
       fits-when = λ S δ u v first last. (
         λ w. (let r = fits-iff .0 w in (r .0, r .1, all-contacts S δ u v (r .0) (r .1) first last .1 (r .2))),
         λ r. fits-iff .1 (r .0, r .1, all-contacts S δ u v (r .0) (r .1) first last .0 (r .2)),

@@ -18,6 +18,7 @@ use Rattle.rules.specs.declared.JoinAnswer.the-variants.{Refused as Join
 use Rattle.rules.specs.declared.StaysAnswer.the-variants.{Refused as StaysRefused}
 use Rattle.rules.specs.declared.SetAnswer.the-variants.{Refused as SetRefused}
 use Rattle.rules.specs.declared.ChainAnswer.the-variants.{Refused as ChainRefused}
+use Rattle.rules.specs.Answers.{numberOf}
 use Rattle.rules.specs.Layout.{animals, ticks}
 use Rattle.rules.specs.Checks.{ValidTable}
 use Rattle.rules.specs.Opening.{openAnswer, openLeaves}
@@ -36,6 +37,8 @@ use Rattle.rules.specs.QuestionList.{listAnswer, listLeaves}
 -- call on any contents stops with an answer or a numbered refusal", is what the check of each function shows; here stands what the demand
 -- says of the words.
 pub record Demand1 : Type 0 where
+  -- A "numbered refusal" is known by its number.
+  pub numbers-differ : (r s : Refusal) → numberOf r ≡ numberOf s → r ≡ s
   -- "A refusal changes no lent word."
   pub open-refused : (n τ δ : ℕ) (T : List ℕ) (r : Refusal) → openAnswer n τ δ T ≡ OpenRefused r → openLeaves n τ δ T ≡ T
   pub add-refused : (T : List ℕ) (k : Contact) (r : Refusal) → addAnswer T k ≡ AddRefused r → addLeaves T k ≡ T

@@ -7,7 +7,7 @@ use lib.ListN.{replicate}
 use Rattle.journeys.specs.Journey.{Contact, contact, interval}
 use Rattle.journeys.specs.Cell.{Cell}
 use Rattle.words.specs.Words.{contactWord}
-use Rattle.rules.specs.declared.Refusal.the-variants.{NoSuchAnimal, SameAnimal, TickOutOfRange, ChainBufferTooShort}
+use Rattle.rules.specs.declared.Refusal.the-variants.{NoSuchAnimal, SameAnimal, TickOutOfRange, FirstAfterLast, ChainBufferTooShort}
 use Rattle.rules.specs.declared.AddAnswer.{AddAnswer}
 use Rattle.rules.specs.declared.AddAnswer.the-variants.{New, Known, Refused as AddRefused}
 use Rattle.rules.specs.declared.AskAnswer.{AskAnswer}
@@ -127,8 +127,8 @@ Marked = AllHold marked
 abbrev fromSecond : List ℕ
 fromSecond = contactWord (contact 0 1 2) ∷ contactWord (contact 1 3 4) ∷ []
 
--- On the session's table: connected, reached and claimed, the limits of ticks and windows, buffers too short; the same contacts with carry
--- time 2; then tables that are connected, one of them of a single animal.
+-- On the session's table: connected, reached and claimed, the limits of ticks and windows, windows turned round, buffers too short; the same
+-- contacts with carry time 2; then tables that are connected, one of them of a single animal.
 abbrev pub worked : List ExampleTable
 worked =
     record {
@@ -140,17 +140,27 @@ worked =
           is (connected 1 6) (asked No)
           ∷ is (connected 0 6) (asked (AskRefused TickOutOfRange))
           ∷ is (connected 1 7) (asked (AskRefused TickOutOfRange))
+          ∷ is (connected 6 0) (asked (AskRefused TickOutOfRange))
+          ∷ is (connected 6 1) (asked (AskRefused FirstAfterLast))
+          ∷ is (connected 6 6) (asked No)
           ∷ is (reached 0 1 6 (90 ∷ 91 ∷ 92 ∷ 93 ∷ 94 ∷ 95 ∷ 96 ∷ 97 ∷ 98 ∷ [])) (set Found 2 (10 ∷ 0 ∷ 0 ∷ 0 ∷ 0 ∷ 0 ∷ 0 ∷ 0 ∷ 98 ∷ []))
           ∷ is (reached 0 1 4 (90 ∷ 91 ∷ [])) (set Found 2 (10 ∷ 0 ∷ []))
           ∷ is (reached 0 1 3 (90 ∷ 91 ∷ [])) (set Found 1 (2 ∷ 0 ∷ []))
           ∷ is (reached 3 1 6 (90 ∷ [])) (set Found 0 (0 ∷ []))
           ∷ is (reached 4 1 6 (90 ∷ 91 ∷ [])) (set (SetRefused NoSuchAnimal) 0 (90 ∷ 91 ∷ []))
           ∷ is (reached 0 1 7 (90 ∷ 91 ∷ [])) (set (SetRefused TickOutOfRange) 0 (90 ∷ 91 ∷ []))
+          ∷ is (reached 0 7 6 (90 ∷ 91 ∷ [])) (set (SetRefused TickOutOfRange) 0 (90 ∷ 91 ∷ []))
+          ∷ is (reached 0 6 5 (90 ∷ 91 ∷ [])) (set (SetRefused FirstAfterLast) 0 (90 ∷ 91 ∷ []))
+          ∷ is (reached 4 6 5 (90 ∷ 91 ∷ [])) (set (SetRefused NoSuchAnimal) 0 (90 ∷ 91 ∷ []))
+          ∷ is (reached 0 2 2 (90 ∷ 91 ∷ [])) (set Found 1 (2 ∷ 0 ∷ []))
           ∷ is (claimed 0 3 1 6 fromSecond) (asked Yes)
           ∷ is (claimed 0 3 2 4 fromSecond) (asked Yes)
           ∷ is (claimed 0 3 1 3 fromSecond) (asked No)
           ∷ is (claimed 0 3 3 6 fromSecond) (asked No)
           ∷ is (claimed 0 3 1 7 fromSecond) (asked (AskRefused TickOutOfRange))
+          ∷ is (claimed 0 3 4 0 fromSecond) (asked (AskRefused TickOutOfRange))
+          ∷ is (claimed 0 3 4 2 fromSecond) (asked (AskRefused FirstAfterLast))
+          ∷ is (claimed 0 1 2 2 (contactWord (contact 0 1 2) ∷ [])) (asked Yes)
           ∷ is (claimed 0 3 1 6 (contactWord (contact 0 1 1) ∷ contactWord (contact 1 3 4) ∷ [])) (asked Yes)
           ∷ is (claimed 0 3 2 6 (contactWord (contact 0 1 1) ∷ contactWord (contact 1 3 4) ∷ [])) (asked No)
           ∷ is (claimed 0 3 1 6 (contactWord (contact 0 1 3) ∷ contactWord (contact 1 3 4) ∷ [])) (asked No)
@@ -162,7 +172,15 @@ worked =
           ∷ is (reach 0 3 1 7) (asked (AskRefused TickOutOfRange))
           ∷ is (reach 0 3 7 7) (asked (AskRefused TickOutOfRange))
           ∷ is (reach 0 3 0 4) (asked (AskRefused TickOutOfRange))
-          ∷ is (reach 0 3 5 2) (asked (AskRefused TickOutOfRange))
+          ∷ is (reach 0 3 7 2) (asked (AskRefused TickOutOfRange))
+          ∷ is (reach 0 3 5 0) (asked (AskRefused TickOutOfRange))
+          ∷ is (reach 0 3 7 0) (asked (AskRefused TickOutOfRange))
+          ∷ is (reach 0 3 5 2) (asked (AskRefused FirstAfterLast))
+          ∷ is (reach 0 3 2 1) (asked (AskRefused FirstAfterLast))
+          ∷ is (reach 0 3 6 1) (asked (AskRefused FirstAfterLast))
+          ∷ is (reach 0 4 5 2) (asked (AskRefused NoSuchAnimal))
+          ∷ is (reach 3 3 5 2) (asked (AskRefused SameAnimal))
+          ∷ is (reach 0 1 2 2) (asked Yes)
           ∷ is (earliest 0 3 7) (found Nothing)
           ∷ is (earliest 0 3 8) (found (IntervalRefused TickOutOfRange))
           ∷ is (latest 0 3 7) (found (At (record { departure = 2; arrival = 5 })))
@@ -172,6 +190,10 @@ worked =
           ∷ is (chain 0 3 1 3 (91 ∷ 92 ∷ 93 ∷ [])) (chained NoJourney (91 ∷ 92 ∷ 93 ∷ []))
           ∷ is (chain 0 3 3 6 (91 ∷ 92 ∷ 93 ∷ [])) (chained NoJourney (91 ∷ 92 ∷ 93 ∷ []))
           ∷ is (chain 0 3 1 7 (91 ∷ 92 ∷ 93 ∷ [])) (chained (ChainRefused TickOutOfRange) (91 ∷ 92 ∷ 93 ∷ []))
+          ∷ is (chain 0 3 7 4 (91 ∷ 92 ∷ 93 ∷ [])) (chained (ChainRefused TickOutOfRange) (91 ∷ 92 ∷ 93 ∷ []))
+          ∷ is (chain 0 3 4 2 (91 ∷ 92 ∷ 93 ∷ [])) (chained (ChainRefused FirstAfterLast) (91 ∷ 92 ∷ 93 ∷ []))
+          ∷ is (chain 0 3 4 2 (91 ∷ 92 ∷ [])) (chained (ChainRefused FirstAfterLast) (91 ∷ 92 ∷ []))
+          ∷ is (chain 0 1 2 2 (91 ∷ 92 ∷ 93 ∷ [])) (chained (Chain 1) (contactWord (contact 0 1 2) ∷ 92 ∷ 93 ∷ []))
           ∷ is (chain 0 3 1 6 (91 ∷ 92 ∷ [])) (chained (ChainRefused ChainBufferTooShort) (91 ∷ 92 ∷ []))
           ∷ is (add 0 1 6) (added (New 1))
           ∷ is (add 0 1 7) (added (AddRefused TickOutOfRange))

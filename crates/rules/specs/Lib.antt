@@ -35,6 +35,7 @@ pub mod LogsRead
 pub mod SheetRule
 pub mod CountedCalls
 pub mod ListRule
+pub mod TickRefusals
 pub mod Determined
 pub mod Wrong
 pub mod WrongAnswers

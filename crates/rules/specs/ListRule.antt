@@ -43,7 +43,8 @@ holding a u v first last = record { from = u; to = v; first = first; last = last
 abbrev sessionTable : List ℕ
 sessionTable = tableAfter engine 4 6 1 (replicate (tableLength 4 6) 0) (contact 0 1 1 ∷ contact 0 1 2 ∷ contact 1 3 4 ∷ [])
 
--- A list before it is asked: P1, P2 and P3, then an animal that is none, one animal twice, a window past the last tick, and one turned round.
+-- A list before it is asked: P1, P2 and P3, then an animal that is none, one animal twice, a window past the last tick, one turned round, and one
+-- that is both.
 abbrev unasked : List Question
 unasked =
     holding Unasked 0 3 1 4
@@ -53,6 +54,7 @@ unasked =
     ∷ holding Unasked 2 2 1 6
     ∷ holding Unasked 0 3 1 7
     ∷ holding Unasked 0 3 5 1
+    ∷ holding Unasked 0 3 7 1
     ∷ []
 
 -- The list once it is asked.
@@ -64,13 +66,14 @@ filled =
     ∷ holding (RecordRefused 7) 0 4 1 6
     ∷ holding (RecordRefused 8) 2 2 1 6
     ∷ holding (RecordRefused 9) 0 3 1 7
-    ∷ holding (RecordRefused 9) 0 3 5 1
+    ∷ holding (RecordRefused 19) 0 3 5 1
+    ∷ holding (RecordRefused 9) 0 3 7 1
     ∷ []
 
 -- Lists that are answered and lists that are refused.
 pub record ListExamples : Type 0 where
   pub session-filled : listLeaves sessionTable unasked ≡ filled
-  pub session-counted : listAnswer sessionTable unasked ≡ Answered 7
+  pub session-counted : listAnswer sessionTable unasked ≡ Answered 8
   pub none-counted : listAnswer sessionTable [] ≡ Answered 0
   pub no-table : listAnswer [] unasked ≡ ListRefused NotOpen
   pub no-table-left : listLeaves [] unasked ≡ unasked

@@ -1,6 +1,6 @@
--- Windows (document 01, "Questions"; document 02, Five): their ticks, what it is to fit one, single ticks, and pairs of animals.
+-- Windows (document 01, "Questions"; document 02, Five and Six): their ticks, what it is to fit one, single ticks, and pairs of animals.
 use Prim.Native.Nat.{ℕ, _+_, _≤_, _<_}
-use mathlib.Core.Logic.{_≢_}
+use mathlib.Core.Logic.{_≢_, _⊎_}
 use mathlib.Core.Bool.{Bool, _&&_}
 use mathlib.Core.Option.{Option}
 use mathlib.Core.List.{List}
@@ -8,18 +8,36 @@ use lib.Dec.{leb}
 use Rattle.journeys.specs.Journey.{Contact, Contacts, Interval, interval, Inside, Journey}
 use Rattle.journeys.specs.Cell.{inside}
 use Rattle.rules.specs.declared.Refusal.{Refusal}
-use Rattle.rules.specs.declared.Refusal.the-variants.{TickOutOfRange}
+use Rattle.rules.specs.declared.Refusal.the-variants.{TickOutOfRange, FirstAfterLast}
 use Rattle.rules.specs.Answers.{ensure}
 use Rattle.rules.specs.Folds.{within}
 use Rattle.rules.specs.Layout.{ticks, carry}
 
 -- ---- the ticks of a window
 
+-- The tick is in a range that ends with end: 1 to end.
+abbrev pub InRange : ℕ → ℕ → Type 0
+InRange end t = (1 ≤ t) × (t ≤ end)
+
+-- The tick is out of that range, on either side.
+abbrev pub OutOfRange : ℕ → ℕ → Type 0
+OutOfRange end t = (t < 1) ⊎ (end < t)
+
 -- The two ticks are a window: both are ticks of the calendar, and first comes no later than last.
 pub record IsWindow (τ first last : ℕ) : Type 0 where
   pub from-one : 1 ≤ first
   pub in-order : first ≤ last
   pub to-last : last ≤ τ
+
+-- A tick of the two is out of its range.
+abbrev pub TickOut : ℕ → ℕ → ℕ → Type 0
+TickOut τ first last = OutOfRange τ first ⊎ OutOfRange τ last
+
+-- The two ticks are a window turned round: both are in range, and first is after last.
+pub record TurnedRound (τ first last : ℕ) : Type 0 where
+  pub first-in-range : InRange τ first
+  pub last-in-range : InRange τ last
+  pub after : last < first
 
 -- Both ticks are in range: 1 to τ.
 abbrev pub windowInRange : List ℕ → ℕ → ℕ → Bool
@@ -29,9 +47,9 @@ windowInRange T first last = within 1 first (ticks T) && within 1 last (ticks T)
 abbrev pub inOrder : ℕ → ℕ → Bool
 inOrder first last = leb first last
 
--- A window: 9 when a tick is out of range, or first is after last.
+-- A window: 9 when a tick is out of range, then 19 when first is after last.
 abbrev pub ensureWindow : List ℕ → ℕ → ℕ → Option Refusal → Option Refusal
-ensureWindow T first last o = ensure (windowInRange T first last) TickOutOfRange (ensure (inOrder first last) TickOutOfRange o)
+ensureWindow T first last o = ensure (windowInRange T first last) TickOutOfRange (ensure (inOrder first last) FirstAfterLast o)
 
 -- ---- what it is to fit a window
 

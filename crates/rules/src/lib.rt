@@ -21,6 +21,7 @@ pub enum Refusal {
     TallyFull,
     DifferentOpenings,
     IllegalStay,
+    FirstAfterLast,
 }
 
 // What opening answers.

@@ -18,7 +18,7 @@ use Rattle.words.specs.Layout.{isOf}
 use Rattle.words.specs.Words.{openingLayout}
 use Rattle.rules.specs.Limits.{maxCarry}
 use Rattle.rules.specs.declared.Refusal.{Refusal}
-use Rattle.rules.specs.declared.Refusal.the-variants.{AnimalsBeyondLimit, TicksBeyondLimit, CarryBeyondLimit, WrongLength, NotOpen, NotWellFormed, NoSuchAnimal, SameAnimal, TickOutOfRange, ChainBufferTooShort, NotALog, NotAContact, IllegalContact, WrongEnd, LogBufferTooShort, TallyFull, DifferentOpenings, IllegalStay}
+use Rattle.rules.specs.declared.Refusal.the-variants.{AnimalsBeyondLimit, TicksBeyondLimit, CarryBeyondLimit, WrongLength, NotOpen, NotWellFormed, NoSuchAnimal, SameAnimal, TickOutOfRange, ChainBufferTooShort, NotALog, NotAContact, IllegalContact, WrongEnd, LogBufferTooShort, TallyFull, DifferentOpenings, IllegalStay, FirstAfterLast}
 use Rattle.rules.specs.declared.ReadAnswer.the-variants.{Read}
 use Rattle.rules.specs.Answers.{numberOf, unless, readAnswerOf}
 use Rattle.rules.specs.Folds.{flat}
@@ -156,6 +156,7 @@ number-small LogBufferTooShort = omega arith
 number-small TallyFull = omega arith
 number-small DifferentOpenings = omega arith
 number-small IllegalStay = omega arith
+number-small FirstAfterLast = omega arith
 
 pub refused-short : (r : Refusal) → length (refusedText (numberOf r)) ≤ 11
 unfolding refusedText

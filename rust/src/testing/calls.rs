@@ -217,7 +217,7 @@ impl Known {
         checked.map_or_else(Answer::Refused, answer)
     }
 
-    /// What the table holds and the window, or the first of the refusals 5 to 9.
+    /// What the table holds and the window, or the first of the refusals 5 to 9 and 19.
     fn pair_and_window(&self, u: u32, v: u32, first: u32, last: u32) -> Result<Legal<'_>, u32> {
         let contents = self.contents()?;
         check::animals(contents.opening(), u, v)?;

@@ -106,11 +106,13 @@ pub fn tick(opening: Opening, tick: u32) -> Result<(), u32> {
     }
 }
 
-/// The window of two ticks at which contacts can be, on a table with this opening, or refusal 9.
+/// The window of two ticks at which contacts can be, on a table with this opening, or refusal 9 or 19.
 pub fn window(opening: Opening, first: u32, last: u32) -> Result<Window, u32> {
     let ticks = 1..=opening.ticks;
-    if !ticks.contains(&first) || !ticks.contains(&last) || first > last {
+    if !ticks.contains(&first) || !ticks.contains(&last) {
         Err(9)
+    } else if first > last {
+        Err(19)
     } else {
         Ok(Window::new(first, last))
     }

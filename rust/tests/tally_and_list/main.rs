@@ -47,6 +47,8 @@ fn session_of_document_01() {
     session.put_list(&[(0, 3, 1, 4), (0, 3, 2, 4), (0, 3, 1, 3), (0, 3, 3, 6)]);
     session.ask();
     session.put_list(&[(3, 0, 1, 6), (0, 4, 1, 6), (1, 1, 1, 6), (0, 3, 1, 7)]);
+    session.record((0, 3, 4, 1));
+    session.record((0, 3, 7, 1));
     session.record((0, 3, 1, 6));
     session.ask();
     session.put(112, 1);
@@ -56,8 +58,8 @@ fn session_of_document_01() {
         1 1 1 0 0\n1 1 2 0 0\n1 2 3 0 0\n2 0 3 1 0\n\
         0 7 3 1 1\n0 8 3 1 2\n0 9 3 1 3\n0 9 3 1 4\n\
         1 4\n0 3 1 4 1 0\n0 3 2 4 1 0\n0 3 1 3 2 0\n0 3 3 6 2 0\n\
-        1 5\n3 0 1 6 2 0\n0 4 1 6 0 7\n1 1 1 6 0 8\n0 3 1 7 0 9\n0 3 1 6 1 0\n\
-        0 6\n3 0 1 6 2 0\n0 4 1 6 0 7\n1 1 1 6 0 8\n0 3 1 7 0 9\n0 3 1 6 1 0\n";
+        1 7\n3 0 1 6 2 0\n0 4 1 6 0 7\n1 1 1 6 0 8\n0 3 1 7 0 9\n0 3 4 1 0 19\n0 3 7 1 0 9\n0 3 1 6 1 0\n\
+        0 6\n3 0 1 6 2 0\n0 4 1 6 0 7\n1 1 1 6 0 8\n0 3 1 7 0 9\n0 3 4 1 0 19\n0 3 7 1 0 9\n0 3 1 6 1 0\n";
     same_text(session.text(), text, "the model");
     session.compare("the program", &mut Met::default());
     for size in [1, 3, 4, 7, 19, 20, 21, 50] {
@@ -86,7 +88,7 @@ fn lists_of_every_length() {
     met.at_least(ASK, &[(Answer(1), 3_900)]);
     met.at_least(RECORD, &[(Answer(1), 5_000), (Answer(2), 5_000)]);
     met.at_least(RECORD, &[(Refusal(7), 5_000), (Refusal(8), 5_000)]);
-    met.at_least(RECORD, &[(Refusal(9), 5_000)]);
+    met.at_least(RECORD, &[(Refusal(9), 5_000), (Refusal(19), 5_000)]);
 }
 
 #[test]
@@ -104,7 +106,7 @@ fn windows_at_and_past_their_ends() {
         session.compare(opening, &mut met);
     }
     met.at_least(RECORD, &[(Answer(1), 100), (Answer(2), 100)]);
-    met.at_least(RECORD, &[(Refusal(9), 1_000)]);
+    met.at_least(RECORD, &[(Refusal(9), 1_000), (Refusal(19), 100)]);
 }
 
 /// Asks for the pair in every window of two of these ticks, in lists as long as there can be.
@@ -149,6 +151,7 @@ fn every_window_of_small_tables() {
     }
     met.at_least(RECORD, &[(Answer(1), 500), (Answer(2), 500)]);
     met.at_least(RECORD, &[(Refusal(8), 5_000), (Refusal(9), 5_000)]);
+    met.at_least(RECORD, &[(Refusal(19), 1_000)]);
 }
 
 #[test]

@@ -7,8 +7,8 @@ use lib.ListN.{length}
 use Rattle.rules.specs.Layout.{animals}
 use Rattle.rules.specs.Chains.{chainRefusal, chainAnswer, chainLeaves}
 use Rattle.rules.proofs.Sound.{table-sizes}
-use Rattle.rules.proofs.Asked.{PairOf}
-use Rattle.checks.proofs.Judged.{room-behind, verdict-refused, verdict-passed}
+use Rattle.rules.proofs.Asked.{PairOf, room-behind}
+use Rattle.checks.proofs.Judged.{verdict-refused, verdict-passed}
 use Rattle.chains.proofs.Replies.{chain-none, chain-found}
 use borrow.Author.Needs.{needs}
 use Rattle.chains.proofs.chain.Statement.{statement}
@@ -44,7 +44,6 @@ passed c = verdict-passed (judged c .judge-chain .ensures) (c .enum-told .given 
 
 -- Both are animals of a valid table, and the buffer has room for the longest chain.
 accepted : (c : tie.After-enum-told) → let a = entry c .args in PairOf (a .table .now) (a .u) (a .v) × (animals (a .table .now) - 1 ≤ length (a .buffer .now))
-unfolding chainRefusal
 accepted c = let a = entry c .args in room-behind (a .table .now) (a .u) (a .v) (a .first) (a .last) (a .buffer .now) (passed c)
 
 -- ---- needs

@@ -198,14 +198,13 @@ pub fn tick(random: &mut Random, last: u32) -> u32 {
 pub fn window(random: &mut Random, opening: Opening) -> (u32, u32) {
     let ticks = opening.ticks;
     let edges = cases::window_edges(opening);
-    match random.below(12) {
+    let (one, other) = (random.between(1, ticks), random.between(1, ticks));
+    match random.below(13) {
         0 => (random.one_of(&edges), random.one_of(&edges)),
         1 => (tick(random, ticks), tick(random, ticks)),
         2 | 3 => (1, ticks),
-        _ => {
-            let (one, other) = (random.between(1, ticks), random.between(1, ticks));
-            (one.min(other), one.max(other))
-        }
+        4 => (one.max(other), one.min(other)),
+        _ => (one.min(other), one.max(other)),
     }
 }
 

@@ -113,10 +113,11 @@ impl Export {
             Export::Join => &[5, 6, 17],
             Export::Stays => &[5, 6, 18],
             Export::WriteLog => &[5, 6, 15],
-            Export::Connected => &[5, 6, 9],
-            Export::Reached => &[5, 6, 7, 9],
-            Export::Chain => &[5, 6, 7, 8, 9, 10],
-            _ => &[5, 6, 7, 8, 9],
+            Export::Connected => &[5, 6, 9, 19],
+            Export::Reached => &[5, 6, 7, 9, 19],
+            Export::Chain => &[5, 6, 7, 8, 9, 19, 10],
+            Export::Reach | Export::Claimed => &[5, 6, 7, 8, 9, 19],
+            Export::Add | Export::Earliest | Export::Latest => &[5, 6, 7, 8, 9],
         }
     }
 }
