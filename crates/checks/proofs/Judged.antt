@@ -5,20 +5,16 @@ use mathlib.Core.Option.{Option, none, some}
 use mathlib.Core.List.{List, [], _∷_}
 use Prim.Native.Nat.{ℕ, _+_, _-_, _<_}
 use native.Mathlib.Omega.{arith}
-use lib.Dec.{ltb}
 use lib.ListN.{length, getD}
-use borrow.Author.Tests.{ltb-true}
 use Rattle.journeys.proofs.Tests.{never}
 use Rattle.words.specs.Words.{animalsOf, ticksOf, carryOf}
 use Rattle.rules.specs.declared.Refusal.{Refusal}
-use Rattle.rules.specs.declared.Refusal.the-variants.{NoSuchAnimal}
 use Rattle.rules.specs.Answers.{ensure}
 use Rattle.rules.specs.Layout.{animals, ticks}
 use Rattle.rules.specs.Checks.{ValidTable, ensureTable}
 use Rattle.rules.specs.Windows.{lastArrival}
 use Rattle.rules.specs.Questions.{ensureAnimal}
-use Rattle.rules.proofs.Judged.{ensure-iff}
-use Rattle.rules.proofs.Groups.{Group}
+use Rattle.rules.proofs.Groups.{Group, then-ahead, table-ahead, animal-ahead}
 use Rattle.rules.proofs.Asked.{valid-behind}
 use Rattle.checks.specs.declared.Verdict.{Verdict}
 use Rattle.checks.specs.declared.Verdict.the-variants.{Passed, Refused}
@@ -61,9 +57,7 @@ table-valid T p q = valid-behind T (verdict-passed p q) .0
 
 -- Where nothing is refused, the animal is one of a valid table.
 pub animal-behind : (T : List ℕ) (u : ℕ) (o : Option Refusal) → ensureTable T (ensureAnimal T u o) ≡ none → ValidTable T × (u < animals T)
-animal-behind T u o e =
-    let p = valid-behind T e in
-    (p .0, ltb-true u (animals T) (ensure-iff (ltb u (animals T)) NoSuchAnimal o .0 (p .1) .0))
+animal-behind T u o e = then-ahead (table-ahead T) (animal-ahead T u) .behind none tt o .0 e .0
 
 -- ---- the first and the last word of a list
 

@@ -1,31 +1,31 @@
 -- When a question is not refused, and what its answer then says.
 use mathlib.Core.Path.{_≡_, refl, sym, ap, _∙_, subst}
 use mathlib.Core.Logic.{_↔_}
-use mathlib.Core.Bool.{Bool, true, false, not, _&&_}
+use mathlib.Core.Bool.{Bool, true, false}
 use mathlib.Core.Option.{Option, none, some}
 use mathlib.Core.List.{List}
 use Prim.Native.Nat.{ℕ, _+_, _-_, _≤_, _<_}
 use lib.ListN.{length}
-use lib.Dec.{leb, ltb, eqb}
-use borrow.Author.Tests.{leb-true, lt-ltb, ltb-true, ne-eqb}
+use lib.Dec.{leb}
+use borrow.Author.Tests.{leb-true}
 use Rattle.journeys.specs.Journey.{Contacts, Interval, interval}
 use Rattle.journeys.proofs.Tests.{never, untrue}
 use Rattle.rules.specs.declared.Refusal.{Refusal}
-use Rattle.rules.specs.declared.Refusal.the-variants.{NotOpen, NotWellFormed, NoSuchAnimal, SameAnimal, TickOutOfRange, FirstAfterLast, ChainBufferTooShort}
+use Rattle.rules.specs.declared.Refusal.the-variants.{TickOutOfRange, FirstAfterLast, ChainBufferTooShort}
 use Rattle.rules.specs.declared.AskAnswer.the-variants.{Yes, No}
 use Rattle.rules.specs.declared.Ends.{Ends}
 use Rattle.rules.specs.declared.IntervalAnswer.the-variants.{At, Nothing}
 use Rattle.rules.specs.Answers.{ensure, askAnswerOf, ends, intervalAnswerOf}
 use Rattle.rules.specs.Folds.{within}
 use Rattle.rules.specs.Layout.{animals, ticks, carry}
-use Rattle.rules.specs.Checks.{isOpen, wellFormed, ensureTable, ValidTable}
+use Rattle.rules.specs.Checks.{ensureTable, ValidTable}
 use Rattle.rules.specs.Adding.{ensurePair}
 use Rattle.rules.specs.Questions.{ensureAnimal, reachRefusal, momentRefusal, connectedRefusal, reachedRefusal}
 use Rattle.rules.specs.Fresh.{Fresh}
 use Rattle.rules.specs.Chains.{chainRefusal}
 use Rattle.rules.specs.Windows.{lastArrival, windowInRange, inOrder, ensureWindow, IsWindow, IsPair}
-use Rattle.rules.proofs.Folds.{and-left, and-right, and-intro}
 use Rattle.rules.proofs.Judged.{ensure-iff, within-iff}
+use Rattle.rules.proofs.Groups.{table-ahead, pair-ahead, animal-ahead}
 use Rattle.rules.proofs.Windows.{window-accepted}
 use Rattle.rules.proofs.Fresh.{fresh-passes, fresh-animals, fresh-ticks, fresh-carry}
 
@@ -70,17 +70,13 @@ valid-fresh f = record { valid = fresh-passes f; animals-are = fresh-animals f; 
 
 module _ {n τ δ : ℕ} {T : List ℕ} (f : ValidOf n τ δ T) where
   table-passes : (o : Option Refusal) → o ≡ none → ensureTable T o ≡ none
-  table-passes o e = ensure-iff (isOpen T) NotOpen _ .1 (f .valid .opens, ensure-iff (wellFormed T) NotWellFormed o .1 (f .valid .formed, e))
+  table-passes o e = table-ahead T .behind none tt o .1 (f .valid, e)
 
   pair-passes : (u v : ℕ) → IsPair n u v → (o : Option Refusal) → o ≡ none → ensurePair T u v o ≡ none
-  pair-passes u v p o e =
-      ensure-iff (ltb u (animals T) && ltb v (animals T)) NoSuchAnimal _ .1 (
-        and-intro (ltb u (animals T)) (ltb v (animals T)) (lt-ltb u (animals T) (subst (λ m. u < m) (sym (f .animals-are)) (p .from-below))) (lt-ltb v (animals T) (subst (λ m. v < m) (sym (f .animals-are)) (p .to-below))),
-        ensure-iff (not (eqb u v)) SameAnimal o .1 (ap not (ne-eqb u v (p .apart)), e),
-      )
+  pair-passes u v p o e = pair-ahead T u v .behind none tt o .1 (subst (λ m. IsPair m u v) (sym (f .animals-are)) p, e)
 
   animal-passes : (u : ℕ) → u < n → (o : Option Refusal) → o ≡ none → ensureAnimal T u o ≡ none
-  animal-passes u h o e = ensure-iff (ltb u (animals T)) NoSuchAnimal o .1 (lt-ltb u (animals T) (subst (λ m. u < m) (sym (f .animals-are)) h), e)
+  animal-passes u h o e = animal-ahead T u .behind none tt o .1 (subst (λ m. u < m) (sym (f .animals-are)) h, e)
 
   -- Ticks run to τ + δ.
   last-is : lastArrival T ≡ τ + δ
@@ -117,10 +113,7 @@ module _ {n τ δ : ℕ} {T : List ℕ} (f : ValidOf n τ δ T) where
 
 -- Where nothing is refused, the table passed 5 and 6, and nothing is refused behind them.
 pub valid-behind : (T : List ℕ) {o : Option Refusal} → ensureTable T o ≡ none → ValidTable T × (o ≡ none)
-valid-behind T {o} e =
-    let a = ensure-iff (isOpen T) NotOpen (ensure (wellFormed T) NotWellFormed o) .0 e in
-    let b = ensure-iff (wellFormed T) NotWellFormed o .0 (a .1) in
-    (record { opens = a .0; formed = b .0 }, b .1)
+valid-behind T {o} e = table-ahead T .behind none tt o .0 e
 
 -- Two animals of a valid table.
 pub record PairOf (T : List ℕ) (u v : ℕ) : Type 0 where
@@ -132,15 +125,8 @@ pub record PairOf (T : List ℕ) (u v : ℕ) : Type 0 where
 pub pair-behind : (T : List ℕ) (u v : ℕ) {o : Option Refusal} → ensureTable T (ensurePair T u v o) ≡ none → PairOf T u v × (o ≡ none)
 pair-behind T u v {o} e =
     let p = valid-behind T e in
-    let q = ensure-iff (ltb u (animals T) && ltb v (animals T)) NoSuchAnimal (ensure (not (eqb u v)) SameAnimal o) .0 (p .1) in
-    let s = ensure-iff (not (eqb u v)) SameAnimal o .0 (q .1) in (
-      record {
-        valid = p .0;
-        from-below = ltb-true u (animals T) (and-left (ltb u (animals T)) (ltb v (animals T)) (q .0));
-        to-below = ltb-true v (animals T) (and-right (ltb u (animals T)) (ltb v (animals T)) (q .0));
-      },
-      s .1,
-    )
+    let q = pair-ahead T u v .behind none tt o .0 (p .1) in
+    (record { valid = p .0; from-below = q .0 .from-below; to-below = q .0 .to-below }, q .1)
 
 -- A call for a chain that is not refused: the two are animals of a valid table, and the buffer has room for the longest chain.
 pub room-behind : (T : List ℕ) (u v first last : ℕ) (B : List ℕ) → chainRefusal T u v first last B ≡ none → PairOf T u v × (animals T - 1 ≤ length B)

@@ -43,7 +43,7 @@ use Rattle.rules.proofs.Decode.{table-length, table-passes}
 use Rattle.rules.proofs.Sound.{table-sizes, passes-good, opens-length}
 use Rattle.rules.proofs.Judged.{ensure-iff, unless-cases, open-iff, add-iff, accepted-none}
 use Rattle.rules.proofs.Numbers.{numbers-differ}
-use Rattle.rules.proofs.Asked.{room-behind}
+use Rattle.rules.proofs.Asked.{valid-behind, room-behind}
 use Rattle.rules.proofs.Fresh.{add-good, empty-good, fresh-length, fresh-passes}
 use Rattle.rules.proofs.Runs.{run-fresh}
 use Rattle.rules.proofs.Joining.{join-kept, join-length, join-valid}
@@ -214,10 +214,9 @@ write-kept T B r = write-cases T B (λ o L. writeAnswerOf o (Written (length (he
 pub write-fits : (T B : List ℕ) → writeRefusal T B ≡ none → ValidTable T × (length (heldContacts T) + 2 ≤ length B)
 unfolding writeRefusal
 write-fits T B e =
-    let p = ensure-iff (isOpen T) NotOpen _ .0 e in
-    let q = ensure-iff (wellFormed T) NotWellFormed _ .0 (p .1) in
-    let r = ensure-iff (leb (length (heldContacts T) + 2) (length B)) LogBufferTooShort none .0 (q .1) in
-    (record { opens = p .0; formed = q .0 }, leb-true (length (heldContacts T) + 2) (length B) (r .0))
+    let p = valid-behind T e in
+    let r = ensure-iff (leb (length (heldContacts T) + 2) (length B)) LogBufferTooShort none .0 (p .1) in
+    (p .0, leb-true (length (heldContacts T) + 2) (length B) (r .0))
 
 write-length : (T B : List ℕ) → length (writeLeaves T B) ≡ length B
 write-length T B =

@@ -64,30 +64,36 @@ behind-valid T p o = rw (p .opens, p .formed) refl
 
 -- ---- checks ahead of others
 
--- The checks f, with refusals numbered up to 8, pass exactly when P holds, and a refusal with a higher number was given behind them.
+-- Nothing is refused, or it is with a number above 8.
+abbrev pub Later : Option Refusal → Type 0
+Later none = Unit {0}
+Later (some r) = 8 < numberOf r
+
+-- The checks f, with refusals numbered up to 8, pass exactly when P holds; what comes of them is then what comes of those behind.
 pub record Ahead (f : Option Refusal → Option Refusal) (P : Type 0) : Type 0 where
-  pub behind : (r : Refusal) → 8 < numberOf r → (o : Option Refusal) → (f o ≡ some r) ↔ (P × (o ≡ some r))
+  pub behind : (a : Option Refusal) → Later a → (o : Option Refusal) → (f o ≡ a) ↔ (P × (o ≡ a))
 
 -- One check.
 one-ahead : {P : Type 0} (b : Bool) (q : Refusal) → numberOf q ≤ 8 → (b ≡ true) ↔ P → Ahead (ensure b q) P
 one-ahead {P} b q low w = record { behind = go b w }
   where
-    go : (a : Bool) → (a ≡ true) ↔ P → (r : Refusal) → 8 < numberOf r → (o : Option Refusal) → (ensure a q o ≡ some r) ↔ (P × (o ≡ some r))
-    go true m r h o = (λ e. (m .0 refl, e), λ p. p .1)
-    go false m r h o = (λ e. let z : q ≡ r = cc in let n = ap numberOf z in absurd (omega arith), λ p. untrue (m .1 (p .0)))
+    go : (t : Bool) → (t ≡ true) ↔ P → (a : Option Refusal) → Later a → (o : Option Refusal) → (ensure t q o ≡ a) ↔ (P × (o ≡ a))
+    go true m a h o = (λ e. (m .0 refl, e), λ p. p .1)
+    go false m none h o = (λ e. some-is-not-none e, λ p. untrue (m .1 (p .0)))
+    go false m (some r) h o = (λ e. let z : q ≡ r = cc in let n = ap numberOf z in absurd (omega arith), λ p. untrue (m .1 (p .0)))
 
 -- Two groups, one after the other, where R says that both pass.
 both-ahead : {f g : Option Refusal → Option Refusal} {P Q R : Type 0} → Ahead f P → Ahead g Q → (P → Q → R) → (R → P × Q) → Ahead (λ o. f (g o)) R
-both-ahead {f} {g} {P} {Q} {R} p q make split = record { behind = λ r h o. (to r h o, of r h o) }
+both-ahead {f} {g} {P} {Q} {R} p q make split = record { behind = λ a h o. (to a h o, of a h o) }
   where
-    to : (r : Refusal) → 8 < numberOf r → (o : Option Refusal) → f (g o) ≡ some r → R × (o ≡ some r)
-    to r h o e =
-        let a = p .behind r h (g o) .0 e in
-        let b = q .behind r h o .0 (a .1) in
-        (make (a .0) (b .0), b .1)
+    to : (a : Option Refusal) → Later a → (o : Option Refusal) → f (g o) ≡ a → R × (o ≡ a)
+    to a h o e =
+        let x = p .behind a h (g o) .0 e in
+        let y = q .behind a h o .0 (x .1) in
+        (make (x .0) (y .0), y .1)
 
-    of : (r : Refusal) → 8 < numberOf r → (o : Option Refusal) → R × (o ≡ some r) → f (g o) ≡ some r
-    of r h o x = let s = split (x .0) in p .behind r h (g o) .1 (s .0, q .behind r h o .1 (s .1, x .1))
+    of : (a : Option Refusal) → Later a → (o : Option Refusal) → R × (o ≡ a) → f (g o) ≡ a
+    of a h o x = let s = split (x .0) in p .behind a h (g o) .1 (s .0, q .behind a h o .1 (s .1, x .1))
 
 -- So said, as a pair.
 pub then-ahead : {f g : Option Refusal → Option Refusal} {P Q : Type 0} → Ahead f P → Ahead g Q → Ahead (λ o. f (g o)) (P × Q)

@@ -72,7 +72,7 @@ second-judged F S r p e = rw (behind-valid F p (ensureTable S (ensureSameOpening
 
 -- 17 is given behind 5 and 6.
 not-seventeen : (T : List ℕ) (o : Option Refusal) → ensureTable T o ≡ some DifferentOpenings → ValidTable T × (o ≡ some DifferentOpenings)
-not-seventeen T o = table-ahead T .behind DifferentOpenings (omega arith) o .0
+not-seventeen T o = table-ahead T .behind (some DifferentOpenings) (omega arith) o .0
 
 openings-differ : (F S : List ℕ) → (joinAnswer F S ≡ Refused DifferentOpenings) ↔ (ValidTable F × ValidTable S × (getD F 0 0 ≢ getD S 0 0))
 unfolding joinAnswer joinRefusal

@@ -305,7 +305,7 @@ module _ (T W : List ℕ) where
 
       to : staysAnswerOf (ensureTable T (ensureStays T W none)) (Added (newAdds engine T (stayContacts T W))) ≡ Refused IllegalStay → ValidTable T × Illegal
       to e =
-          let a = table-ahead T .behind IllegalStay (omega arith) (ensureStays T W none) .0 (refused _ e) in
+          let a = table-ahead T .behind (some IllegalStay) (omega arith) (ensureStays T W none) .0 (refused _ e) in
           (a .0, ⊎-elim inl (λ z. inr (incomplete (isWhole W) refl z)) (each-first (animals T) (ticks T) (staysOf W) (a .1)))
 
       no-stays : Illegal → ¬ AreStays (animals T) (ticks T) W

@@ -43,7 +43,7 @@ use Rattle.rules.proofs.ListRule.{answered-at}
 behind-judged : {f : Option Refusal → Option Refusal} {P Q refused : Type 0} → Ahead f P → (r : Refusal) → 8 < numberOf r → (o : Option Refusal)
     → (o ≡ some r) ↔ Q → refused ↔ (f o ≡ some r) → refused ↔ (P × Q)
 behind-judged a r h o q w =
-    let b = a .behind r h o in
+    let b = a .behind (some r) h o in
     (λ e. let z = b .0 (w .0 e) in (z .0, q .0 (z .1)), λ p. w .1 (b .1 (p .0, q .1 (p .1))))
 
 -- One tick, with nothing behind its check.
