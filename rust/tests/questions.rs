@@ -51,21 +51,11 @@ fn windows_and_ticks_at_the_edges_of_full_tables_and_of_every_second_and_third_c
                 ask(first, last, has(first, last));
             }
             ask(0, tick, Reply::Refused(9));
-            ask(
-                tick,
-                tick - 1,
-                Reply::Refused(if tick == 1 { 9 } else { 19 }),
-            );
-            ask(
-                ticks,
-                tick,
-                if tick < ticks {
-                    Reply::Refused(19)
-                } else {
-                    has(ticks, ticks)
-                },
-            );
             ask(tick, 0, Reply::Refused(9));
+        }
+        for tick in 1..ticks {
+            ask(tick + 1, tick, Reply::Refused(19));
+            ask(ticks, tick, Reply::Refused(19));
         }
         for tick in ticks + 1..=end + 1 {
             ask(1, tick, Reply::Refused(9));

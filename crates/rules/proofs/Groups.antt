@@ -1,4 +1,4 @@
--- Groups of checks: one refuses by itself, or leaves it to the checks behind it; and what a refusal says of the checks ahead of it.
+-- Groups of checks: one refuses by itself, or leaves it to the checks behind it; and what the outcome of a call says of the checks ahead.
 use mathlib.Core.Path.{_≡_, refl, sym, ap, _∙_}
 use mathlib.Core.Logic.{_↔_}
 use mathlib.Core.Bool.{Bool, true, false, not, _&&_}

@@ -35,7 +35,7 @@ use Rattle.rules.specs.QuestionList.{listAnswer, listLeaves}
 
 -- Demand 1. Its first sentence, "The memory lent to a call, table, list, log and buffer, is read and written only inside its ends, and every
 -- call on any contents stops with an answer or a numbered refusal", is what the check of each function shows; here stands what the demand
--- says of the words.
+-- says of the refusals' numbers and of the words.
 pub record Demand1 : Type 0 where
   -- A "numbered refusal" is known by its number.
   pub numbers-differ : (r s : Refusal) → numberOf r ≡ numberOf s → r ≡ s
