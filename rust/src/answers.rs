@@ -38,6 +38,15 @@ pub enum StaysAdded {
     Refused(u32),
 }
 
+/// The answer of a call that rewrites a whole table and has nothing more to tell: [`remove`](crate::remove).
+#[derive(Clone, Copy, Debug, PartialEq, Eq)]
+pub enum Done {
+    /// It is done.
+    Done,
+    /// The refusal's number; the table keeps its words, and so do those lent for work.
+    Refused(u32),
+}
+
 /// The answer of [`read_log`](crate::read_log).
 #[derive(Clone, Copy, Debug, PartialEq, Eq)]
 pub enum Read {
@@ -154,6 +163,17 @@ impl StaysAdded {
     }
 }
 
+impl Done {
+    /// What the reply says.
+    pub(crate) fn of(reply: u64) -> Done {
+        match parts(reply) {
+            (0, number) => Done::Refused(number),
+            (1, 0) => Done::Done,
+            _ => no_answer(reply),
+        }
+    }
+}
+
 impl Read {
     /// What the reply says.
     pub(crate) fn of(reply: u64) -> Read {
@@ -242,7 +262,7 @@ fn no_answer(reply: u64) -> ! {
 
 #[cfg(test)]
 mod tests {
-    use super::{Found, Interval};
+    use super::{Done, Found, Interval};
     use std::panic::catch_unwind;
 
     /// The reply whose upper half says which answer, and whose lower half has these upper and lower halves.
@@ -279,6 +299,19 @@ mod tests {
             (0xFFFF_FFFF, 2, 5),
         ] {
             let read = catch_unwind(|| Found::of(reply(which, upper, lower)));
+            assert!(read.is_err(), "{which} {upper} {lower}: {read:?}");
+        }
+    }
+
+    #[test]
+    fn done_has_no_number() {
+        assert_eq!(Done::of(reply(1, 0, 0)), Done::Done);
+        for number in [5, 6, 20, 7, 8, 9, 21] {
+            let done = Done::of(reply(0, 0, number.into()));
+            assert_eq!(done, Done::Refused(number));
+        }
+        for (which, upper, lower) in [(1, 0, 1), (1, 1, 0), (2, 0, 0), (3, 0, 0), (1 << 31, 0, 0)] {
+            let read = catch_unwind(|| Done::of(reply(which, upper, lower)));
             assert!(read.is_err(), "{which} {upper} {lower}: {read:?}");
         }
     }

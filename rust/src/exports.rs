@@ -11,6 +11,15 @@ extern "C" {
         second_words: usize,
     ) -> u64;
     pub fn herd_stays(table: *mut u32, words: usize, stays: *const u32, stay_words: usize) -> u64;
+    pub fn herd_remove(
+        table: *mut u32,
+        words: usize,
+        work: *mut u32,
+        work_words: usize,
+        u: u32,
+        v: u32,
+        t: u32,
+    ) -> u64;
     pub fn herd_read_log(log: *const u32, words: usize, table: *mut u32, room: usize) -> u64;
     pub fn herd_write_log(table: *const u32, words: usize, buffer: *mut u32, room: usize) -> u64;
     pub fn herd_reach(

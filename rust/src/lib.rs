@@ -2,9 +2,10 @@
 //!
 //! The caller lends a table of 1 + n·n·(τ+1) words for n animals and τ ticks. [`open`] opens it, [`add`] adds a contact,
 //! [`join`] adds all contacts of a second table, [`stays`] adds those of animals that were in the same pen at the same
-//! tick, [`read_log`] loads a whole log and [`write_log`] writes one. [`reach`], [`earliest`], [`latest`], [`connected`],
-//! [`reached`] and [`chain`] ask about the journeys of the contacts that were added, and [`claimed`] judges a chain that
-//! somebody claims. A call keeps nothing but the words lent to it, and reads and writes only these.
+//! tick, [`remove`] takes a contact out again, [`read_log`] loads a whole log and [`write_log`] writes one. [`reach`],
+//! [`earliest`], [`latest`], [`connected`], [`reached`] and [`chain`] ask about the journeys of the contacts that the table
+//! holds, and [`claimed`] judges a chain that somebody claims. A call keeps nothing but the words lent to it, and reads and
+//! writes only these.
 //!
 //! A contact leaves one animal at a tick and arrives at another when the carry time is over. A journey is a row of
 //! contacts, at least one, each leaving the animal that the one before it reached, no earlier than it got there. A window
@@ -45,23 +46,26 @@
 //! | `read_log` | 14 | the last word is no end word with the number of the words between |
 //! | all others | 5 | the table is empty, has no opening word first, or not the length for it |
 //! | all others | 6 | some cell of the table is not well formed |
+//! | `remove` | 20 | the second table has not the length of the first |
 //! | those with animals | 7 | an animal is n or above |
 //! | those with two | 8 | both animals are the same |
-//! | `add`, those with windows | 9 | a tick is not 1 to τ |
+//! | `add`, `remove`, those with windows | 9 | a tick is not 1 to τ |
 //! | `earliest`, `latest` | 9 | the tick is not 1 to τ+δ, with δ the carry time |
 //! | those with windows | 19 | both ticks are 1 to τ, and the first is after the last |
+//! | `remove` | 21 | the table does not hold the contact |
 //! | `chain` | 10 | the buffer is shorter than n−1 words |
 //! | `write_log` | 15 | the buffer is shorter than the contacts held and 2 |
 //! | `join` | 17 | the two tables have different opening words |
 //! | `stays` | 18 | a record is no legal stay, or the last one is incomplete |
 //!
-//! `join` judges its first table by 5 and 6, and then its second one likewise. A stay is legal when its animal is below n,
-//! its pen is 0 to 63, its ticks are 1 to τ, and its first tick is not after its last.
+//! `join` judges its first table by 5 and 6, and then its second one likewise; `remove` judges its first table so, and of
+//! its second one the length alone. A stay is legal when its animal is below n, its pen is 0 to 63, its ticks are 1 to τ,
+//! and its first tick is not after its last.
 //!
 //! # A session
 //!
 //! ```
-//! use herd::{Added, Answer, Chain, Found, Interval, Joined, Opened, Stay, StaysAdded};
+//! use herd::{Added, Answer, Chain, Done, Found, Interval, Joined, Opened, Stay, StaysAdded};
 //!
 //! let mut table = vec![0; 1 + 4 * 4 * 7];
 //! assert_eq!(herd::open(&mut table, 4, 6, 1), Opened::Opened);
@@ -92,6 +96,13 @@
 //! assert_eq!(herd::stays(&mut table, Stay::words(&gate)), StaysAdded::New(4));
 //! assert_eq!(herd::reach(&table, 2, 0, 3, 3), Answer::Yes);
 //! assert_eq!(herd::reach(&table, 2, 0, 4, 6), Answer::No);
+//!
+//! let mut work = vec![0; table.len()];
+//! assert_eq!(herd::remove(&mut table, &mut work, 1, 3, 4), Done::Done);
+//! assert_eq!(herd::reach(&table, 0, 3, 1, 6), Answer::No);
+//! assert_eq!(table, work);
+//! assert_eq!(herd::remove(&mut table, &mut work, 1, 3, 4), Done::Refused(21));
+//! assert_eq!(herd::remove(&mut table, &mut work[1..], 1, 3, 4), Done::Refused(20));
 //! ```
 //!
 //! # Tests
@@ -107,9 +118,9 @@ mod tables;
 pub mod testing;
 
 pub use answers::{
-    Added, Answer, Chain, Found, Interval, Joined, Opened, Reached, Read, StaysAdded, Written,
+    Added, Answer, Chain, Done, Found, Interval, Joined, Opened, Reached, Read, StaysAdded, Written,
 };
 pub use chains::{chain, claimed};
 pub use logs::{read_log, write_log};
 pub use questions::{connected, earliest, latest, reach, reached};
-pub use tables::{add, join, open, stays, Stay};
+pub use tables::{add, join, open, remove, stays, Stay};

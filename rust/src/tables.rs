@@ -1,7 +1,7 @@
-//! Opening a table, adding a contact, joining two tables, and adding the contacts of stays.
+//! Opening a table, adding a contact, joining two tables, adding the contacts of stays, and removing a contact.
 
-use crate::exports::{herd_add, herd_join, herd_open, herd_stays};
-use crate::{Added, Joined, Opened, StaysAdded};
+use crate::exports::{herd_add, herd_join, herd_open, herd_remove, herd_stays};
+use crate::{Added, Done, Joined, Opened, StaysAdded};
 use std::slice;
 
 /// A record of a gate reader: the animal was in the pen from the first tick to the last.
@@ -71,4 +71,18 @@ pub fn stays(table: &mut [u32], stays: &[u32]) -> StaysAdded {
     let (table, stays) = (table.as_mut_ptr(), stays.as_ptr());
     // SAFETY: pointers and lengths are those of two lent slices, and the engine is proved to stay inside.
     StaysAdded::of(unsafe { herd_stays(table, words, stays, stay_words) })
+}
+
+/// Removes the contact that leaves `u` at tick `t` and arrives at `v`, with a second table of the same length for work.
+///
+/// Afterwards both hold the same words: those of a fresh table over the contacts that the first one held, less this one.
+/// What the second held before does not matter. Where its length is not the first's it is refused with 20, and where the
+/// first does not hold the contact with 21. On a table that no adds built only the intervals of single contacts count; all
+/// others go, and those of the journeys of the contacts left come.
+#[inline]
+pub fn remove(table: &mut [u32], work: &mut [u32], u: u32, v: u32, t: u32) -> Done {
+    let (words, work_words) = (table.len(), work.len());
+    let (table, work) = (table.as_mut_ptr(), work.as_mut_ptr());
+    // SAFETY: pointers and lengths are those of two lent slices, and the engine is proved to stay inside.
+    Done::of(unsafe { herd_remove(table, words, work, work_words, u, v, t) })
 }

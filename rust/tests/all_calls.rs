@@ -7,7 +7,7 @@ use herd::testing::suite::{draws, Call, Export, Lent, Reply, Suite};
 use herd::testing::words::{self, Cells, Opening, Stay};
 
 /// The refusals on a good table.
-const ON_GOOD_TABLES: [u32; 8] = [7, 8, 9, 10, 15, 17, 18, 19];
+const ON_GOOD_TABLES: [u32; 10] = [7, 8, 9, 10, 15, 17, 18, 19, 20, 21];
 
 /// The refusals of opening and of reading a log.
 const ANEW: [u32; 8] = [1, 2, 3, 4, 11, 12, 13, 14];
@@ -22,10 +22,11 @@ const ON_PAIRS: [Export; 5] = [
 ];
 
 /// The calls that change the table, and those that write a log or a set.
-const THAT_WRITE: [Export; 5] = [
+const THAT_WRITE: [Export; 6] = [
     Export::Add,
     Export::Join,
     Export::Stays,
+    Export::Remove,
     Export::WriteLog,
     Export::Reached,
 ];
@@ -219,6 +220,10 @@ fn one_animal_is_connected_and_reaches_none() {
         assert_eq!(suite.times(export, |reply| !is_refused(reply)), 0);
         assert!(suite.times(export, is_refused) > 500, "{export:?}");
     }
+    let is_refused = |reply| matches!(reply, Reply::Refused(7 | 8 | 20));
+    let other = suite.times(Export::Remove, |reply| !is_refused(reply));
+    let refused = suite.times(Export::Remove, is_refused);
+    assert!(other == 0 && refused > 500, "{other} {refused}");
 }
 
 #[test]
@@ -380,6 +385,8 @@ fn numbers_at_their_edges() {
                 for t in edges(&[ticks]) {
                     if random.once_in(rarely) {
                         suite.compare(&lent, &Call::Add(u, v, t));
+                        let work = lent.work(&mut random);
+                        suite.compare(&lent, &Call::Remove(u, v, t, work));
                     }
                 }
                 for &first in &tick_edges {
@@ -408,6 +415,7 @@ fn numbers_at_their_edges() {
     suite.at_least(40, &ON_PAIRS, &ON_GOOD_TABLES);
     suite.at_least(40, &[Export::Connected, Export::Reached], &[7, 9, 19]);
     suite.at_least(20, &[Export::Add], &ON_GOOD_TABLES);
+    suite.at_least(10, &[Export::Remove], &ON_GOOD_TABLES);
 }
 
 #[test]
@@ -538,6 +546,13 @@ fn refusals_come_in_order() {
                 let pair = left.or(met).or((u == v).then_some(8));
                 for (t, tick) in ticks {
                     ask(&[pair, tick], Call::Add(u, v, t));
+                    let held = (u, v) != (0, 2);
+                    let absent = (!held).then_some(21);
+                    for (more, length) in [(0, None), (0, None), (1, Some(20)), (4, Some(20))] {
+                        let work = random.words(lent.words.len() + more);
+                        let call = Call::Remove(u, v, t, work);
+                        ask(&[length, pair, tick, absent], call);
+                    }
                 }
                 for (tick, moment) in moments {
                     ask(&[pair, moment], Call::Earliest(u, v, tick));

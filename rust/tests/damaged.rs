@@ -7,9 +7,9 @@ use herd::testing::words::{self, Cells, Interval, Opening};
 use std::collections::BTreeMap;
 
 /// The refusals of calls on an open table.
-const REFUSALS: [u32; 9] = [5, 6, 7, 8, 9, 10, 15, 17, 18];
+const REFUSALS: [u32; 11] = [5, 6, 7, 8, 9, 10, 15, 17, 18, 20, 21];
 
-/// So many calls are one of each kind.
+/// So many calls are one of each kind, from the start of a round.
 const EACH: usize = Export::ON_OPEN_TABLES.len();
 
 /// A well-formed table with its cells.
@@ -221,11 +221,11 @@ const REFUSED_6: [(&str, Damage); 24] = [
     }),
 ];
 
-/// Drawn calls on open tables, of each kind in turn, and the suite that compares them.
+/// Drawn calls on open tables, in rounds of one of each kind in any order, and the suite that compares them.
 struct Turns {
     random: Random,
     suite: Suite,
-    turn: usize,
+    round: Vec<Export>,
 }
 
 impl Turns {
@@ -234,8 +234,17 @@ impl Turns {
         Turns {
             random: Random::new(seed),
             suite: Suite::default(),
-            turn: 0,
+            round: Vec::new(),
         }
+    }
+
+    /// The next kind of the round, or the first of a new one.
+    fn next(&mut self) -> Export {
+        if self.round.is_empty() {
+            self.round.extend(Export::ON_OPEN_TABLES);
+            self.random.shuffle(&mut self.round);
+        }
+        self.round.pop().expect("a kind of the round")
     }
 
     /// Makes so many calls, each of the next kind.
@@ -243,8 +252,7 @@ impl Turns {
     fn take(&mut self, lent: &Lent, calls: usize) -> Vec<Reply> {
         let mut replies = Vec::new();
         for _ in 0..calls {
-            self.turn += 1;
-            let export = Export::ON_OPEN_TABLES[self.turn % Export::ON_OPEN_TABLES.len()];
+            let export = self.next();
             let call = lent.draw(&mut self.random, export);
             replies.push(self.suite.compare(lent, &call));
         }
@@ -348,6 +356,7 @@ fn every_bit_of_tables_that_adds_built() {
     }
     let asked = [
         Export::Add,
+        Export::Remove,
         Export::WriteLog,
         Export::Reach,
         Export::Claimed,

@@ -1,13 +1,13 @@
 //! The session, the marked examples and the unmarked ones of document 01, with the windows of document 02, in every
 //! loading order.
 
-use herd::testing::cases::orders;
+use herd::testing::cases::{self, orders};
 use herd::testing::compare::same_words;
 use herd::testing::model;
 use herd::testing::random::Random;
 use herd::testing::suite::{Call, Export, Lent, Reply, Suite};
 use herd::testing::words::{self, contacts, Contact, Interval, Opening, Window};
-use herd::{Added, Chain, Joined, Opened, Reached, Read, Written};
+use herd::{Added, Chain, Done, Joined, Opened, Reached, Read, Written};
 
 /// The session's log.
 const LOG: [u32; 5] = [
@@ -95,12 +95,83 @@ fn the_session_in_two_yards() {
 }
 
 #[test]
+fn contacts_of_the_session_come_out_again() {
+    let mut random = Random::new(6);
+    let one_row = |table: &mut [u32], start: usize, row: u32| {
+        table[start..start + 3].copy_from_slice(&[0xC000_0001, row, 0]);
+    };
+    let mut without: Vec<Vec<u32>> = session().map(|_| session_table()).into();
+    one_row(&mut without[0], 8, 0x4000_1003);
+    one_row(&mut without[1], 8, 0x4000_0802);
+    one_row(&mut without[1], 22, 0x4000_0805);
+    without[2][22..24].copy_from_slice(&[0xC000_0000, 0]);
+    without[2][50..52].copy_from_slice(&[0xC000_0000, 0]);
+    for (contact, without) in session().into_iter().zip(without) {
+        let (u, v, t) = (contact.from, contact.to, contact.tick);
+        let (mut table, mut work) = (session_table(), random.words(113));
+        assert_eq!(herd::remove(&mut table, &mut work, u, v, t), Done::Done);
+        same_words(&table, &without, contact);
+        same_words(&work, &without, contact);
+        let again = herd::remove(&mut table, &mut work, u, v, t);
+        assert_eq!(again, Done::Refused(21), "{contact:?}");
+        assert!(matches!(herd::add(&mut table, u, v, t), Added::New(_)));
+        same_words(&table, &session_table(), contact);
+    }
+    let mut opened = random.words(113);
+    assert_eq!(herd::open(&mut opened, 4, 6, 1), Opened::Opened);
+    for order in orders(&session()) {
+        let (mut table, mut work) = (session_table(), random.words(113));
+        for contact in &order {
+            let (u, v, t) = (contact.from, contact.to, contact.tick);
+            assert_eq!(herd::remove(&mut table, &mut work, u, v, t), Done::Done);
+        }
+        same_words(&table, &opened, &order);
+        same_words(&work, &opened, &order);
+    }
+}
+
+#[test]
+fn a_misread_tag_comes_out_again() {
+    let mut random = Random::new(7);
+    let opening = Opening::new(22, 21, 2);
+    let tag = |contact: Contact, one: u32, other: u32| {
+        let read = |animal| if animal == one { other } else { animal };
+        Contact::new(read(contact.from), read(contact.to), contact.tick)
+    };
+    let mut misread = 0;
+    for _ in 0..20 {
+        let mut right = cases::following_contacts(&mut random, opening, 60);
+        right.extend((1..=7).map(|day| Contact::new(12, day, 3 * day)));
+        right.retain(|contact| contact.from != 21 && contact.to != 21);
+        let noted: Vec<Contact> = right.iter().map(|&c| tag(c, 12, 21)).collect();
+        let Lent {
+            words: mut table,
+            held,
+            ..
+        } = Lent::built(&mut random, opening, &noted);
+        let mut work = random.words(table.len());
+        for noted in held.iter().filter(|c| c.from == 21 || c.to == 21) {
+            let (u, v, t) = (noted.from, noted.to, noted.tick);
+            assert_eq!(herd::remove(&mut table, &mut work, u, v, t), Done::Done);
+            let Contact { from, to, tick } = tag(*noted, 21, 12);
+            let added = herd::add(&mut table, from, to, tick);
+            assert!(matches!(added, Added::New(_)), "{noted:?} {added:?}");
+            misread += 1;
+        }
+        let fresh = model::fresh_table(opening, &right.iter().copied().collect());
+        same_words(&table, &fresh, &right);
+    }
+    assert!(misread > 200, "{misread}");
+}
+
+#[test]
 fn marked_and_unmarked_answers_of_the_session() {
     let at = |departure, arrival| Reply::At(Interval::new(departure, arrival));
     let reached = |u, first, last| Call::Reached(u, first, last, vec![7; 8]);
     let chain = |u, v, first, last, room| Call::Chain(u, v, first, last, vec![7; room]);
     let claimed =
         |u, v, first, last, chain: &[u32]| Call::Claimed(u, v, first, last, chain.to_vec());
+    let remove = |u, v, t, words| Call::Remove(u, v, t, vec![7; words]);
     let (p6, other) = ([LOG[2], LOG[3]], [LOG[1], LOG[3]]);
     let asked = [
         ("P1", Call::Reach(0, 3, 1, 4), Reply::Yes),
@@ -177,6 +248,20 @@ fn marked_and_unmarked_answers_of_the_session() {
         ("last first", claimed(0, 3, 4, 2, &p6), Reply::Refused(19)),
         ("and tick 0", claimed(0, 3, 4, 0, &p6), Reply::Refused(9)),
         ("one tick", claimed(0, 1, 2, 2, &p6[..1]), Reply::Yes),
+        ("first", remove(0, 1, 1, 113), Reply::Done),
+        ("second", remove(0, 1, 2, 113), Reply::Done),
+        ("last", remove(1, 3, 4, 113), Reply::Done),
+        ("another tick", remove(0, 1, 3, 113), Reply::Refused(21)),
+        ("turned round", remove(1, 0, 1, 113), Reply::Refused(21)),
+        ("of two contacts", remove(0, 3, 2, 113), Reply::Refused(21)),
+        ("last tick", remove(0, 1, 6, 113), Reply::Refused(21)),
+        ("one tick more", remove(0, 1, 7, 113), Reply::Refused(9)),
+        ("tick 0", remove(0, 1, 0, 113), Reply::Refused(9)),
+        ("one animal", remove(1, 1, 0, 113), Reply::Refused(8)),
+        ("animal 4", remove(4, 4, 0, 113), Reply::Refused(7)),
+        ("a word less", remove(0, 1, 1, 112), Reply::Refused(20)),
+        ("a word more", remove(0, 1, 1, 114), Reply::Refused(20)),
+        ("and animal 4", remove(4, 4, 0, 114), Reply::Refused(20)),
     ];
     let mut random = Random::new(2);
     let mut suite = Suite::default();
@@ -294,5 +379,6 @@ fn five_animals() {
     let all_but_connected: Vec<Export> = all_but_connected
         .filter(|&export| export != Export::Connected)
         .collect();
-    suite.at_least(20, &all_but_connected, &[7, 8, 9, 10, 15, 19]);
+    let refusals = [7, 8, 9, 10, 15, 19, 20, 21];
+    suite.at_least(20, &all_but_connected, &refusals);
 }

@@ -7,11 +7,17 @@ use herd::testing::model::{self, Contacts};
 use herd::testing::random::Random;
 use herd::testing::suite::{draws, Call, Export, Lent, Reply, Suite};
 use herd::testing::words::{self, Opening, Stay, LAST_PEN};
-use herd::{Added, Answer, Chain, Found, Joined, Opened, Reached, Read, StaysAdded, Written};
+use herd::{Added, Answer, Chain, Done, Found, Joined, Opened};
+use herd::{Reached, Read, StaysAdded, Written};
 use std::env;
 use std::os::unix::process::ExitStatusExt;
 use std::process::Command;
 use std::sync::Mutex;
+
+/// The refusals on a good table, and those of opening and of reading a log.
+const ON_GOOD_TABLES: [u32; 18] = [
+    1, 2, 3, 4, 7, 8, 9, 10, 11, 12, 13, 14, 15, 17, 18, 19, 20, 21,
+];
 
 /// A change of what memory may be used for stops all running threads, so the tests take turns.
 static TURN: Mutex<()> = Mutex::new(());
@@ -73,11 +79,7 @@ fn tables_that_adds_built_stay_inside() {
         let lent = draws::built(&mut random);
         compare_drawn(&mut suite, &mut random, &lent, 3);
     }
-    suite.at_least(
-        30,
-        &Export::ALL,
-        &[1, 2, 3, 4, 7, 8, 9, 10, 11, 12, 13, 14, 15, 17, 18, 19],
-    );
+    suite.at_least(30, &Export::ALL, &ON_GOOD_TABLES);
 }
 
 #[test]
@@ -89,11 +91,7 @@ fn tables_that_no_adds_built_stay_inside() {
         let lent = draws::stored(&mut random);
         compare_drawn(&mut suite, &mut random, &lent, 3);
     }
-    suite.at_least(
-        30,
-        &Export::ALL,
-        &[1, 2, 3, 4, 7, 8, 9, 10, 11, 12, 13, 14, 15, 17, 18, 19],
-    );
+    suite.at_least(30, &Export::ALL, &ON_GOOD_TABLES);
 }
 
 #[test]
@@ -141,6 +139,19 @@ fn full_cells_stay_inside() {
                 let reply = suite.compare_at_guards(lent, &call);
                 assert_eq!(reply, Reply::StaysAdded(new), "{opening:?}");
             }
+            for contact in [full.held[0], full.held[full.held.len() - 1]] {
+                let (u, v, t) = (contact.from, contact.to, contact.tick);
+                for (lent, held) in [(&full, true), (&thinned, thinned.held.contains(&contact))] {
+                    let call = Call::Remove(u, v, t, full.words.clone());
+                    let reply = suite.compare_at_guards(lent, &call);
+                    let done = if held {
+                        Reply::Done
+                    } else {
+                        Reply::Refused(21)
+                    };
+                    assert_eq!(reply, done, "{opening:?} {contact:?}");
+                }
+            }
         }
     }
 }
@@ -184,6 +195,34 @@ fn lists_of_stays_stay_inside() {
     let is_new = |reply| matches!(reply, Reply::StaysAdded(1..));
     let new = suite.times(Export::Stays, is_new);
     assert!(new > 1_000, "{new}");
+}
+
+#[test]
+fn removals_stay_inside() {
+    let _turn = TURN.lock();
+    let mut random = Random::new(610);
+    let mut suite = Suite::default();
+    for _ in 0..1_500 {
+        for lent in [draws::built(&mut random), draws::stored(&mut random)] {
+            let right = lent.words.len();
+            for contact in [lent.held.first(), lent.held.last()].into_iter().flatten() {
+                let (u, v, t) = (contact.from, contact.to, contact.tick);
+                for (length, reply) in [
+                    (right, Reply::Done),
+                    (right - 1, Reply::Refused(20)),
+                    (right + 1, Reply::Refused(20)),
+                    (0, Reply::Refused(20)),
+                ] {
+                    let call = Call::Remove(u, v, t, random.words(length));
+                    let answer = suite.compare_at_guards(&lent, &call);
+                    assert_eq!(answer, reply, "{call:?}");
+                }
+            }
+            let call = lent.draw(&mut random, Export::Remove);
+            suite.compare_at_guards(&lent, &call);
+        }
+    }
+    suite.at_least(100, &[Export::Remove], &[7, 8, 9, 20, 21]);
 }
 
 #[test]
@@ -330,6 +369,9 @@ fn tables_of_more_words_than_32_bits_count() {
     assert_eq!(herd::join(&mut lent, &table), Joined::Refused(5));
     let stays = [0, 63, 1, 6, 1, 63, 1, 6];
     assert_eq!(herd::stays(&mut lent, &stays), StaysAdded::Refused(5));
+    let mut work = table.clone();
+    let removed = herd::remove(&mut lent, &mut work, 0, 1, 1);
+    assert_eq!((removed, &work), (Done::Refused(5), &table));
     let written = herd::write_log(&lent, &mut buffer);
     assert_eq!(written, Written::Refused(5));
     assert_eq!(herd::reach(&lent, 0, 1, 1, 6), Answer::Refused(5));
@@ -376,6 +418,17 @@ fn more_words_beside_a_table_than_32_bits_count() {
     assert_eq!(herd::join(&mut first, &second), Joined::Refused(5));
     let joined = herd::join(&mut first, &second[..table.len()]);
     assert_eq!((joined, first), (Joined::New(0), table.clone()));
+
+    let mut work = vast(&table);
+    let mut after = table.clone();
+    let removed = herd::remove(&mut after, &mut work, 0, 1, 1);
+    assert_eq!((removed, &after), (Done::Refused(20), &table));
+    same_words(&work[..table.len()], &table, "vast");
+    assert!(work[table.len()..1_000].iter().all(|&word| word == 0));
+    let removed = herd::remove(&mut after, &mut work[..table.len()], 0, 1, 1);
+    assert_eq!((removed, work[table.len()]), (Done::Done, 0));
+    same_words(&work[..table.len()], &after, "vast");
+    assert_ne!(after, table);
 
     let stays = vast(&[0, 63, 1, 6, 1, 63, 6, 6]);
     let mut after = model::fresh_table(opening, &Contacts::new());

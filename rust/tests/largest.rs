@@ -4,7 +4,8 @@ use herd::testing::calls::accepted;
 use herd::testing::compare::{same_table, same_words};
 use herd::testing::model::{self, Contacts};
 use herd::testing::words::{self, contacts, Cells, Contact, Interval, Opening};
-use herd::{Added, Answer, Chain, Found, Joined, Opened, Reached, Read, Stay, StaysAdded, Written};
+use herd::{Added, Answer, Chain, Done, Found, Joined, Opened};
+use herd::{Reached, Read, Stay, StaysAdded, Written};
 
 /// The largest opening.
 const LARGEST: Opening = Opening {
@@ -356,6 +357,55 @@ fn adding_the_contacts_of_stays() {
     assert_eq!(through, &[Interval::new(1, 1280)]);
     assert_eq!(herd::stays(table, words), StaysAdded::New(0));
     same_table(table, LARGEST, &cells, "added twice");
+    assert_eq!(memory[length], 0);
+}
+
+#[test]
+fn removing_a_contact() {
+    let (mut memory, listed) = asked();
+    let length = memory.len() - 1;
+    let last = length - 1;
+    let mut work = vec![0x5555_5555; length + 1];
+    let before = model::minimal_intervals(LARGEST, &listed.into());
+
+    memory[last] = 1;
+    for (words, number) in [(length, 6), (length - 1, 5), (length + 1, 5)] {
+        for lent in [length, length - 1] {
+            let removed = herd::remove(&mut memory[..words], &mut work[..lent], 256, 256, 0);
+            assert_eq!(removed, Done::Refused(number), "{words} {lent}");
+        }
+    }
+    memory[last] = 0;
+    let table = &mut memory[..length];
+    for lent in [0, 1, length - 1, length + 1] {
+        let removed = herd::remove(table, &mut work[..lent], 256, 256, 0);
+        assert_eq!(removed, Done::Refused(20), "{lent}");
+    }
+    let work = &mut work[..length];
+    for ((u, v, t), number) in [
+        ((256, 256, 0), 7),
+        ((255, 255, 0), 8),
+        ((255, 0, 1025), 9),
+        ((255, 0, 1023), 21),
+        ((0, 255, 1024), 21),
+        ((3, 255, 1), 21),
+    ] {
+        let removed = herd::remove(table, work, u, v, t);
+        assert_eq!(removed, Done::Refused(number), "{u} {v} {t}");
+    }
+    same_table(table, LARGEST, &before, "refused");
+    assert!(work.iter().all(|&word| word == 0x5555_5555));
+
+    let mut left: Contacts = listed.into();
+    for (contact, joined) in [(listed[0], 1), (listed[2], 0)] {
+        let (u, v, t) = (contact.from, contact.to, contact.tick);
+        assert_eq!(herd::remove(table, work, u, v, t), Done::Done);
+        left.remove(&contact);
+        let cells = model::minimal_intervals(LARGEST, &left);
+        same_table(table, LARGEST, &cells, contact);
+        same_words(work, table, contact);
+        assert_eq!(cells[LARGEST.pair(3, 255)].len(), joined);
+    }
     assert_eq!(memory[length], 0);
 }
 

@@ -9,7 +9,7 @@ use herd::testing::random::Random;
 use herd::testing::rule::Stored;
 use herd::testing::suite::{draws, Export, Lent};
 use herd::testing::words::{self, Cells, Contact, Interval, Opening, Stay, Window, LAST_PEN};
-use herd::{Added, Joined, Read, StaysAdded};
+use herd::{Added, Done, Joined, Read, StaysAdded};
 use std::collections::BTreeSet;
 use std::fmt::Debug;
 
@@ -102,8 +102,9 @@ fn drawn(random: &mut Random, ticks: u32, most: usize) -> (Opening, Contacts) {
 #[test]
 fn search_finds_what_listing_every_journey_finds() {
     let mut random = Random::new(201);
-    for _ in 0..2_000 {
-        let (opening, contacts) = drawn(&mut random, 5, 10);
+    for round in 0..3_000 {
+        let (ticks, most) = if round % 3 == 0 { (9, 18) } else { (5, 10) };
+        let (opening, contacts) = drawn(&mut random, ticks, most);
         let mut expected = listed(opening, &contacts);
         for (place, cell) in expected.iter_mut().enumerate() {
             let is_one = place % (opening.animals as usize + 1) == 0;
@@ -398,6 +399,48 @@ fn joining_is_adding_what_the_second_holds() {
         assert_eq!(answer, Joined::New(new), "{opening:?} {held:?}");
         assert_eq!(joined, table, "{opening:?} {held:?}");
     }
+}
+
+#[test]
+fn removing_is_opening_and_adding_what_is_left() {
+    let mut random = Random::new(210);
+    let (mut done, mut refused) = (0, 0);
+    for round in 0..1_500 {
+        let opening = draws::opening(&mut random);
+        let cells = match round % 2 {
+            0 => draws::cells(&mut random, opening),
+            _ => {
+                let contacts = draws::contacts(&mut random, opening);
+                model::minimal_intervals(opening, &contacts.into_iter().collect())
+            }
+        };
+        let first = words::table(opening, &cells);
+        let work = random.words(first.len());
+        let mut legal = cases::legal_contacts(opening);
+        random.shuffle(&mut legal);
+        let held =
+            |c: &Contact| cells[opening.pair(c.from, c.to)].contains(&c.interval(opening.carry));
+        for removed in legal.iter().take(6) {
+            let (u, v, t) = (removed.from, removed.to, removed.tick);
+            let (answer, [table, other]) = calls::remove(&first, &work, u, v, t);
+            if !held(removed) {
+                assert_eq!(answer, Done::Refused(21), "{opening:?} {removed:?}");
+                assert_eq!((&table, &other), (&first, &work), "{opening:?}");
+                refused += 1;
+                continue;
+            }
+            let (n, ticks, carry) = (opening.animals, opening.ticks, opening.carry);
+            let (_, mut left) = calls::open(&work, n, ticks, carry);
+            for contact in legal.iter().filter(|c| held(c) && *c != removed) {
+                let (u, v, t) = (contact.from, contact.to, contact.tick);
+                left = calls::add(&left, u, v, t).1;
+            }
+            assert_eq!(answer, Done::Done, "{opening:?} {removed:?}");
+            assert_eq!((&table, &other), (&left, &left), "{opening:?} {removed:?}");
+            done += 1;
+        }
+    }
+    assert!(done > 1_000 && refused > 1_000, "{done} {refused}");
 }
 
 /// The contacts of the stays, by listing the animals of each pen at each tick.

@@ -2,24 +2,55 @@
 ghost use mathlib.Core.Path.{_≡_};
 ghost use mathlib.Core.Option.{none};
 ghost use Rattle.journeys.specs.Journey.{contact};
-ghost use Rattle.rules.specs.Adding.{ensurePair, addRefusal};
+ghost use Rattle.rules.specs.Checks.{ensureTable};
+ghost use Rattle.rules.specs.Adding.{ensurePair, ensureTick, addRefusal};
 ghost use Rattle.rules.specs.Windows.{ensureWindow};
 ghost use Rattle.rules.specs.Questions.{reachRefusal, momentRefusal, connectedRefusal, reachedRefusal};
 ghost use Rattle.rules.specs.Chains.{chainRefusal};
 ghost use Rattle.rules.specs.Joining.{joinRefusal};
+ghost use Rattle.rules.specs.Removing.{ensureSameLength, removeRefusal};
 ghost use Rattle.checks.specs.Verdicts.{verdictOf};
 use checks::Verdict;
 use checks::groups;
 use rules::Refusal;
+
+// The checks of a contact behind 5 and 6: 7, 8, then 9.
+fn judge_contact(table: &[u32], u: u32, v: u32, t: u32) -> Verdict
+    ensures { λ r. ⌜ r ≡ verdictOf (ensurePair (now (table .entry)) u v (ensureTick (now (table .entry)) t none)) ⌝ }
+{
+    let pair = groups::judge_pair(table, u, v);
+    let tick = groups::judge_tick(table, t);
+    groups::and_then(pair, tick)
+}
 
 // All checks of an add: 5, 6, then 7, 8, then 9.
 pub fn judge_add(table: &[u32], u: u32, v: u32, t: u32) -> Verdict
     ensures { λ r. ⌜ r ≡ verdictOf (addRefusal (now (table .entry)) (contact u v t)) ⌝ }
 {
     let whole = checks::judge_table(table);
-    let pair = groups::judge_pair(table, u, v);
-    let tick = groups::judge_tick(table, t);
-    groups::and_then(whole, groups::and_then(pair, tick))
+    let contact = judge_contact(table, u, v, t);
+    groups::and_then(whole, contact)
+}
+
+// The checks of a removal but 21: 5, 6 of the first table, then 20 of the second, then 7, 8, then 9.
+fn judge_removable(table: &[u32], work: &[u32], u: u32, v: u32, t: u32) -> Verdict
+    ensures { λ r. ⌜ r ≡ verdictOf (ensureTable (now (table .entry)) (ensureSameLength (now (table .entry)) (now (work .entry)) (ensurePair (now (table .entry)) u v (ensureTick (now (table .entry)) t none)))) ⌝ }
+{
+    let whole = checks::judge_table(table);
+    let length = groups::ensure(table.len() == work.len(), Refusal::DifferentLengths);
+    let behind = judge_contact(table, u, v, t);
+    groups::and_then(whole, groups::and_then(length, behind))
+}
+
+// All checks of a removal: 5, 6 of the first table, then 20 of the second, then 7, 8, then 9, then 21.
+pub fn judge_remove(table: &[u32], work: &[u32], u: u32, v: u32, t: u32) -> Verdict
+    ensures { λ r. ⌜ r ≡ verdictOf (removeRefusal (now (table .entry)) (now (work .entry)) (contact u v t)) ⌝ }
+{
+    let earlier = judge_removable(table, work, u, v, t);
+    match earlier {
+        Verdict::Refused(r) => Verdict::Refused(r),
+        Verdict::Passed => groups::ensure(pair_cells::holds(table, u, v, t), Refusal::NotHeld),
+    }
 }
 
 // All checks of a join: 5, 6 of the first table, then 5, 6 of the second, then 17.

@@ -49,6 +49,15 @@ chained {f} g o {a} {w} {r} p q e = e ∙ ap (λ (x : Verdict). andThen x w) p �
     go none h = ap verdictOf (sym (g .passes h o))
     go (some s) h = ap verdictOf (sym (g .refuses s h o))
 
+-- Where a call goes on only behind a group that passed: the group refused, and so do all checks,
+pub group-refused : {f : Option Refusal → Option Refusal} → Group f → (o : Option Refusal) {a : Verdict} {r : Refusal} → a ≡ verdictOf (f none) → a ≡ Refused r → Refused r ≡ verdictOf (f o)
+unfolding verdictOf
+group-refused g o {r = r} p q = ap verdictOf (sym (g .refuses r (verdict-refused p q) o))
+
+-- or it passed, and the verdict is that of the checks behind it.
+pub group-passed : {f : Option Refusal → Option Refusal} → Group f → (o : Option Refusal) {a w : Verdict} → a ≡ verdictOf (f none) → a ≡ Passed → w ≡ verdictOf o → w ≡ verdictOf (f o)
+group-passed g o p q e = e ∙ ap verdictOf (sym (g .passes (verdict-passed p q) o))
+
 -- ---- what a call that is not refused may rely on
 
 -- A table that was judged passed is valid.

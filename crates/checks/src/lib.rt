@@ -42,6 +42,8 @@ pub fn number_of(refusal: Refusal) -> u32
         Refusal::DifferentOpenings => 17,
         Refusal::IllegalStay => 18,
         Refusal::FirstAfterLast => 19,
+        Refusal::DifferentLengths => 20,
+        Refusal::NotHeld => 21,
     }
 }
 

@@ -1,24 +1,9 @@
 // The contact of one word, on a table that passed its checks.
 ghost use mathlib.Core.Path.{_≡_};
-ghost use Prim.Native.Nat.{_<_, _≤_};
-ghost use Rattle.journeys.specs.Journey.{contact};
 ghost use Rattle.words.specs.Words.{contactOf};
-ghost use Rattle.rules.specs.Limits.{maxTicks};
-ghost use Rattle.rules.specs.Layout.{animals};
 ghost use Rattle.rules.specs.Checks.{ValidTable};
-ghost use Rattle.rules.specs.Adding.{holds};
 ghost use Rattle.rules.specs.Windows.{inWindow};
 ghost use Rattle.rules.specs.Claims.{heldWord, goesOn};
-
-// Whether the table holds the contact (u, v, t).
-fn holds(table: &[u32], u: u32, v: u32, t: u32) -> bool
-    requires { ⌜ ValidTable (now table) ⌝ }
-    requires { ⌜ (u < animals (now table)) × (v < animals (now table)) × (t ≤ maxTicks) ⌝ }
-    ensures { λ r. ⌜ r ≡ holds (now (table .entry)) (contact u v t) ⌝ }
-{
-    let a = t + words::carry_of(table[0]);
-    pair_cells::stands(table, u, v, t, a)
-}
 
 // Whether the word is that of a contact held by the table.
 fn held_word(table: &[u32], w: u32) -> bool
@@ -38,7 +23,7 @@ fn held_word(table: &[u32], w: u32) -> bool
     if n <= v {
         return false;
     }
-    holds(table, u, v, t)
+    pair_cells::holds(table, u, v, t)
 }
 
 // Whether the word's contact lies in the window from `first` to `last`.

@@ -6,10 +6,12 @@ ghost use Rattle.rules.specs.Opening.{openAnswer, openLeaves};
 ghost use Rattle.rules.specs.Adding.{addAnswer, addLeaves};
 ghost use Rattle.rules.specs.Logs.{writeAnswer, writeLeaves};
 ghost use Rattle.rules.specs.Reading.{readAnswer, readLeaves};
+ghost use Rattle.rules.specs.Removing.{removeAnswer, removeLeaves, removeWork};
 ghost use Rattle.rules.specs.Joining.{joinAnswer, joinLeaves};
 ghost use Rattle.rules.specs.Stays.{staysAnswer, staysLeaves};
 use checks::Verdict;
 use rules::AddAnswer;
+use rules::DoneAnswer;
 use rules::JoinAnswer;
 use rules::OpenAnswer;
 use rules::ReadAnswer;
@@ -52,6 +54,24 @@ pub fn add_contact(table: &mut [u32], u: u32, v: u32, t: u32) -> AddAnswer
                 return AddAnswer::Known(change.cells);
             }
             AddAnswer::New(change.cells)
+        }
+    }
+}
+
+// Removes the contact (u, v, t), with a second table of the same length lent for work, and answers that it is done. Both
+// tables then hold the fresh table over the contacts left, whatever the second held before. Refuses with 5, 6, 20, 7, 8, 9,
+// 21.
+pub fn remove(table: &mut [u32], work: &mut [u32], u: u32, v: u32, t: u32) -> DoneAnswer
+    ensures { λ r. ⌜ r ≡ removeAnswer (now (table .entry)) (now (work .entry)) (contact u v t) ⌝ }
+    ensures { λ _. ⌜ now (table .exit) ≡ removeLeaves (now (table .entry)) (now (work .entry)) (contact u v t) ⌝ }
+    ensures { λ _. ⌜ now (work .exit) ≡ removeWork (now (table .entry)) (now (work .entry)) (contact u v t) ⌝ }
+{
+    let verdict = call_checks::judge_remove(table, work, u, v, t);
+    match verdict {
+        Verdict::Refused(r) => DoneAnswer::Refused(r),
+        Verdict::Passed => {
+            removing::remove_held(table, work, u, v, t);
+            DoneAnswer::Done
         }
     }
 }

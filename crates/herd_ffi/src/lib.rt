@@ -2,11 +2,12 @@
 // 32 bits say which answer, the lower 32 its number: 0 is a refusal with its number; 1 and 2 are the answers of the call.
 ghost use mathlib.Core.Path.{_≡_};
 ghost use Rattle.journeys.specs.Journey.{contact};
-ghost use Rattle.rules.specs.Answers.{openReply, addReply, writeReply, readReply, joinReply, staysReply, askReply, intervalReply, setReply, chainReply};
+ghost use Rattle.rules.specs.Answers.{openReply, addReply, writeReply, readReply, joinReply, staysReply, doneReply, askReply, intervalReply, setReply, chainReply};
 ghost use Rattle.rules.specs.Opening.{openAnswer, openLeaves};
 ghost use Rattle.rules.specs.Adding.{addAnswer, addLeaves};
 ghost use Rattle.rules.specs.Logs.{writeAnswer, writeLeaves};
 ghost use Rattle.rules.specs.Reading.{readAnswer, readLeaves};
+ghost use Rattle.rules.specs.Removing.{removeAnswer, removeLeaves, removeWork};
 ghost use Rattle.rules.specs.Joining.{joinAnswer, joinLeaves};
 ghost use Rattle.rules.specs.Stays.{staysAnswer, staysLeaves};
 ghost use Rattle.rules.specs.Questions.{reachAnswer, earliestAnswer, latestAnswer, connectedAnswer, reachedAnswer, reachedCount, reachedLeaves};
@@ -29,6 +30,16 @@ pub extern "C" fn herd_add(table: &mut [u32], u: u32, v: u32, t: u32) -> u64
     ensures { λ _. ⌜ now (table .exit) ≡ addLeaves (now (table .entry)) (contact u v t) ⌝ }
 {
     replies::of_add(engine::add_contact(table, u, v, t))
+}
+
+// Removes a contact with a second table lent for work: 1 done, 0 refused.
+#[no_mangle]
+pub extern "C" fn herd_remove(table: &mut [u32], work: &mut [u32], u: u32, v: u32, t: u32) -> u64
+    ensures { λ r. ⌜ r ≡ doneReply (removeAnswer (now (table .entry)) (now (work .entry)) (contact u v t)) ⌝ }
+    ensures { λ _. ⌜ now (table .exit) ≡ removeLeaves (now (table .entry)) (now (work .entry)) (contact u v t) ⌝ }
+    ensures { λ _. ⌜ now (work .exit) ≡ removeWork (now (table .entry)) (now (work .entry)) (contact u v t) ⌝ }
+{
+    replies::of_done(engine::remove(table, work, u, v, t))
 }
 
 // Joins the second table into the first: 1 joined, with the number of contacts new to the first, 0 refused.

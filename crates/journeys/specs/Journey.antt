@@ -25,6 +25,10 @@ In l k = List·Memᴰ k l
 abbrev pub With : Contacts → Contact → Contacts
 With S k c = S c ⊎ (c ≡ k)
 
+-- The set with this contact left out.
+abbrev pub Without : Contacts → Contact → Contacts
+Without S k c = S c × (¬ (c ≡ k))
+
 -- The contacts of both sets.
 abbrev pub Union : Contacts → Contacts → Contacts
 Union S R k = S k ⊎ R k

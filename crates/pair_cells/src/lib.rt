@@ -1,10 +1,11 @@
 // What is read off the cell of a pair, on a table that passed its checks.
 ghost use mathlib.Core.Path.{_≡_};
-ghost use Prim.Native.Nat.{_<_};
-ghost use Rattle.journeys.specs.Journey.{interval};
+ghost use Prim.Native.Nat.{_<_, _≤_};
+ghost use Rattle.journeys.specs.Journey.{contact, interval};
+ghost use Rattle.rules.specs.Limits.{maxTicks};
 ghost use Rattle.rules.specs.Layout.{animals, cellsOf};
 ghost use Rattle.rules.specs.Checks.{ValidTable};
-ghost use Rattle.rules.specs.Adding.{stands};
+ghost use Rattle.rules.specs.Adding.{stands, holds};
 ghost use Rattle.rules.specs.Questions.{reaches};
 ghost use Rattle.cells.specs.Rows.{firstDeparting, lastArriving};
 use cells::RowFound;
@@ -34,6 +35,16 @@ pub fn stands(table: &[u32], u: u32, v: u32, d: u32, a: u32) -> bool
     ensures { λ r. ⌜ r ≡ stands (interval d a) (cellsOf (now (table .entry)) u v) ⌝ }
 {
     cells::stands(tables::cell(table, u, v), d, a)
+}
+
+// Whether the table holds the contact (u, v, t).
+pub fn holds(table: &[u32], u: u32, v: u32, t: u32) -> bool
+    requires { ⌜ ValidTable (now table) ⌝ }
+    requires { ⌜ (u < animals (now table)) × (v < animals (now table)) × (t ≤ maxTicks) ⌝ }
+    ensures { λ r. ⌜ r ≡ holds (now (table .entry)) (contact u v t) ⌝ }
+{
+    let a = t + words::carry_of(table[0]);
+    stands(table, u, v, t, a)
 }
 
 // Whether a stored interval of the pair fits the window from `first` to `last`.

@@ -1,14 +1,13 @@
 -- Loading: the table built over the contacts of a log is the one that opening and adding them leave.
-use mathlib.Core.Path.{_≡_, refl, sym, ap, _∙_, subst}
-use mathlib.Core.Logic.{_⊎_, ⊎-elim}
+use mathlib.Core.Path.{_≡_, sym, ap, _∙_, subst}
 use mathlib.Core.Option.{none}
-use mathlib.Core.List.{List, [], _∷_, map, List·Memᴰ, List·Memᴰ·head, List·Memᴰ·tail, List·Memᴰ·cases-cons, List·Memᴰ·not-nil}
-use Prim.Native.Nat.{ℕ, _+_, _-_, _≤_, _<_}
+use mathlib.Core.List.{List, [], map, List·Memᴰ}
+use Prim.Native.Nat.{ℕ, _-_, _≤_, _<_}
 use native.Mathlib.Omega.{arith}
 use lib.ListN.{length, getD, take, drop, replicate}
 use lib.Dec.{leb, eqb}
 use borrow.Author.Tests.{eqb-true, leb-true}
-use Rattle.journeys.specs.Journey.{Contact, Contacts, In}
+use Rattle.journeys.specs.Journey.{Contact, In}
 use Rattle.words.specs.Layout.{capacity, get, isOf}
 use Rattle.words.specs.Words.{openingLayout, contactOf, endLayout, loggedField, animalsOf, ticksOf, carryOf}
 use Rattle.words.proofs.Fields.{get-bound}
@@ -17,7 +16,7 @@ use Rattle.rules.specs.Layout.{tableLength, tableWords, animals, ticks, carry}
 use Rattle.rules.specs.Opening.{Sizes, noIntervals, openRefusal}
 use Rattle.rules.specs.Adding.{Legal}
 use Rattle.rules.specs.Fresh.{Fresh}
-use Rattle.rules.specs.CallLists.{engine, tableAfter}
+use Rattle.rules.specs.CallLists.{tableWith}
 use Rattle.rules.specs.Reading.{between, loggedContacts, isTrueEnd, different, readRefusal}
 use Rattle.rules.proofs.Folds.{and-left, and-right, member-map}
 use Rattle.rules.proofs.Judged.{open-iff}
@@ -82,7 +81,7 @@ module _ (L T : List ℕ) (h : readRefusal L T ≡ none) (end : ℕ) (s : end �
 
     -- Built over them, it is what opening the table and adding all leave.
     pub log-loaded : (V₁ V₂ : List ℕ) → getD V₁ 0 0 ≡ getD U 0 0 → Fresh (animals V₁) (ticks V₁) (carry V₁) (In (map contactOf (take (end - 1) (drop 1 L)))) V₂
-        → V₂ ≡ tableAfter engine (animals L) (ticks L) (carry L) T (loggedContacts L)
+        → V₂ ≡ tableWith (animals L) (ticks L) (carry L) T (loggedContacts L)
     log-loaded V₁ V₂ f g = fresh-unique (fresh-map ours (λ k. (λ m. (m, legal k m), λ m. m .0))) (run-fresh (animals L) (ticks L) (carry L) T (loggedContacts L) opens)
       where
         z : Sizes (animals L) (ticks L) (carry L)

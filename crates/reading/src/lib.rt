@@ -2,7 +2,7 @@
 ghost use mathlib.Core.Path.{_≡_};
 ghost use mathlib.Core.Option.{none};
 ghost use Rattle.rules.specs.Layout.{animals, ticks, carry};
-ghost use Rattle.rules.specs.CallLists.{engine, tableAfter};
+ghost use Rattle.rules.specs.CallLists.{tableWith};
 ghost use Rattle.rules.specs.Reading.{loggedContacts, different, readRefusal};
 use tables::Opening;
 
@@ -10,7 +10,7 @@ use tables::Opening;
 pub fn load(log: &[u32], table: &mut [u32]) -> u32
     requires { ⌜ readRefusal (now log) (now table) ≡ none ⌝ }
     ensures { λ r. ⌜ r ≡ different (loggedContacts (now (log .entry))) ⌝ }
-    ensures { λ _. ⌜ now (table .exit) ≡ tableAfter engine (animals (now (log .entry))) (ticks (now (log .entry))) (carry (now (log .entry))) (now (table .entry)) (loggedContacts (now (log .entry))) ⌝ }
+    ensures { λ _. ⌜ now (table .exit) ≡ tableWith (animals (now (log .entry))) (ticks (now (log .entry))) (carry (now (log .entry))) (now (table .entry)) (loggedContacts (now (log .entry))) ⌝ }
 {
     let o = Opening::of_word(log[0]);
     tables::write_opened(table, o);

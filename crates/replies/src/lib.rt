@@ -2,12 +2,13 @@
 // lower 32. The words of a set are written where the caller lends room for them.
 ghost use mathlib.Core.Path.{_≡_};
 ghost use Prim.Native.Nat.{_<_, _^_};
-ghost use Rattle.rules.specs.Answers.{reply, numberOf, openReply, addReply, writeReply, readReply, joinReply, staysReply, askReply, intervalReply, setReply, chainReply, listReply, recordReply};
+ghost use Rattle.rules.specs.Answers.{reply, numberOf, openReply, addReply, writeReply, readReply, joinReply, staysReply, doneReply, askReply, intervalReply, setReply, chainReply, listReply, recordReply};
 ghost use Rattle.rules.specs.Questions.{setOver};
 ghost use Rattle.replies.specs.Sets.{setLeaves};
 use rules::AddAnswer;
 use rules::AskAnswer;
 use rules::ChainAnswer;
+use rules::DoneAnswer;
 use rules::IntervalAnswer;
 use rules::JoinAnswer;
 use rules::ListAnswer;
@@ -92,6 +93,16 @@ pub fn of_stays(answer: StaysAnswer) -> u64
     match answer {
         StaysAnswer::Added(new) => reply_of(1, new),
         StaysAnswer::Refused(r) => refused(r),
+    }
+}
+
+// Of a call that rewrites a whole table: 1 done.
+pub fn of_done(answer: DoneAnswer) -> u64
+    ensures { λ r. ⌜ r ≡ doneReply answer ⌝ }
+{
+    match answer {
+        DoneAnswer::Done => reply_of(1, 0),
+        DoneAnswer::Refused(r) => refused(r),
     }
 }
 

@@ -15,7 +15,9 @@ use Rattle.rules.specs.declared.Refusal.{Refusal}
 use Rattle.rules.specs.declared.OpenAnswer.the-variants.{Opened, Refused as OpenRefused}
 use Rattle.rules.specs.declared.AddAnswer.{AddAnswer}
 use Rattle.rules.specs.declared.AddAnswer.the-variants.{New, Known, Refused as AddRefused}
-use Rattle.rules.specs.declared.Refusal.the-variants.{NotOpen, NotWellFormed, NoSuchAnimal, SameAnimal, TickOutOfRange, LogBufferTooShort, TallyFull}
+use Rattle.rules.specs.declared.Refusal.the-variants.{NotOpen, NotWellFormed, NoSuchAnimal, SameAnimal, TickOutOfRange, LogBufferTooShort, TallyFull, DifferentLengths, NotHeld}
+use Rattle.rules.specs.declared.DoneAnswer.{DoneAnswer}
+use Rattle.rules.specs.declared.DoneAnswer.the-variants.{Done, Refused as DoneRefused}
 use Rattle.rules.specs.declared.Tally.{Tally}
 use Rattle.rules.specs.declared.Question.{Question}
 use Rattle.rules.specs.declared.ListAnswer.the-variants.{Refused as ListRefused}
@@ -24,19 +26,20 @@ use Rattle.rules.specs.declared.ReadAnswer.the-variants.{Read, Refused a
 use Rattle.rules.specs.declared.SetAnswer.the-variants.{Refused as SetRefused}
 use Rattle.rules.specs.declared.ChainAnswer.the-variants.{Refused as ChainRefused}
 use Rattle.words.specs.Words.{contactWord}
-use Rattle.rules.specs.Answers.{numberOf, ensure, unless, openAnswerOf, addAnswerOf, writeAnswerOf, readAnswerOf}
+use Rattle.rules.specs.Answers.{ensure, unless, openAnswerOf, addAnswerOf, writeAnswerOf, readAnswerOf}
 use Rattle.rules.specs.Layout.{tableWords, animals, ticks, carry, cellsOf}
-use Rattle.rules.specs.Checks.{isOpen, wellFormed, ValidTable, WellFormedBelow}
+use Rattle.rules.specs.Checks.{isOpen, wellFormed, ValidTable, WellFormedBelow, ensureTable}
 use Rattle.rules.specs.Opening.{openRefusal, openAnswer, openLeaves}
-use Rattle.rules.specs.Adding.{Legal, addRefusal, addedCells, holds, cellsChanged, addAnswer, addLeaves}
+use Rattle.rules.specs.Adding.{Legal, ensurePair, ensureTick, addRefusal, addedCells, holds, cellsChanged, addAnswer, addLeaves}
 use Rattle.rules.specs.Logs.{heldContacts, logWords, writeRefusal, writeAnswer, writeLeaves}
 use Rattle.rules.specs.Fresh.{Fresh}
 use Rattle.rules.specs.CallLists.{LegalOf, Accepted}
+use Rattle.rules.specs.Removing.{removeRefusal, removeAnswer}
 use Rattle.rules.specs.Reading.{loggedContacts, readRefusal, different, readAnswer, readLeaves}
 use Rattle.rules.specs.Folds.{countBelow, within}
 use Rattle.rules.specs.Questions.{setAnswerOf, isReached, setWords, reachedRefusal, reachedAnswer, reachedWords, reachedCount, setOver, reachedLeaves}
 use Rattle.rules.specs.Chains.{nowhere, there, leadsOn, leads, Lowest, nobody, animal, lowest, prepend, follow, chainFrom, chainOf, chainRefusal, chainAnswerOf, chainAnswer, chainWords, chainLeaves}
-use Rattle.rules.specs.Counting.{fullTally, tallySum, countedAnswer, countedLeaves, raised, countedTally}
+use Rattle.rules.specs.Counting.{fullTally, tallySum, countedAnswer, countedLeaves, raised, countedTally, countedRemoval, countedRemovalLeaves, countedRemovalWork, raisedByRemoval, countedRemovalTally}
 use Rattle.rules.specs.QuestionList.{asked, listRefusal, listAnswerOf, listAnswer, listLeaves}
 use Rattle.rules.specs.Demand1.{Demand1}
 use Rattle.rules.proofs.Decode.{table-length, table-passes}
@@ -46,10 +49,11 @@ use Rattle.rules.proofs.Numbers.{numbers-differ}
 use Rattle.rules.proofs.Asked.{valid-behind, room-behind}
 use Rattle.rules.proofs.Fresh.{add-good, empty-good, fresh-length, fresh-passes}
 use Rattle.rules.proofs.Runs.{run-fresh}
+use Rattle.rules.proofs.Removing.{done-refused, remove-kept, remove-length, remove-valid, remove-both-valid}
 use Rattle.rules.proofs.Joining.{join-kept, join-length, join-valid}
 use Rattle.rules.proofs.Stays.{stays-kept, stays-length, stays-valid}
 use Rattle.rules.proofs.Reading.{Readable, read-iff, read-opens, log-length}
-use Rattle.rules.proofs.Counted.{counted-cases}
+use Rattle.rules.proofs.Counted.{counted-cases, removal-cases}
 use Rattle.rules.proofs.KeptChain.{KeptChain, nothing-kept, kept, kept-chain}
 
 -- ---- opening
@@ -114,48 +118,42 @@ counted-kept t T k r = counted-cases t T k (λ b a L s. a ≡ AddRefused r → L
 
 -- A refusal with another number than 16 is counted.
 counted-counts : (t : Tally) (T : List ℕ) (k : Contact) (r : Refusal) → countedAnswer t T k ≡ AddRefused r → r ≢ TallyFull
-    → countedTally t T k ≡ record { new = t .new; known = t .known; refused = t .refused + 1 }
+    → countedTally t T k ≡ record { new = t .new; known = t .known; refused = t .refused + 1; removed = t .removed }
 counted-counts t T k r =
-    counted-cases t T k (λ b a L s. a ≡ AddRefused r → r ≢ TallyFull → s ≡ record { new = t .new; known = t .known; refused = t .refused + 1 })
+    counted-cases t T k (λ b a L s. a ≡ AddRefused r → r ≢ TallyFull → s ≡ record { new = t .new; known = t .known; refused = t .refused + 1; removed = t .removed })
     (λ h e d. absurd (d (let q : TallyFull ≡ r = cc in sym q))) (λ h e d. ap (λ (a : AddAnswer). raised a t) e)
 
--- The number of a refusal, or 0.
-abbrev refusalNumber : Option Refusal → ℕ
-refusalNumber none = 0
-refusalNumber (some r) = numberOf r
+-- A check with another refusal than 16, in front of checks that do not refuse with 16, does not refuse with it.
+ensure-not-full : (b : Bool) (r : Refusal) (o : Option Refusal) → r ≢ TallyFull → o ≢ some TallyFull → ensure b r o ≢ some TallyFull
+ensure-not-full true r o h g e = g e
+ensure-not-full false r o h g e = h (let q : r ≡ TallyFull = cc in q)
 
--- A check with a number up to 9, in front of such checks, gives no number above 9.
-ensure-up-to-nine : (b : Bool) (r : Refusal) (o : Option Refusal) → numberOf r ≤ 9 → refusalNumber o ≤ 9 → refusalNumber (ensure b r o) ≤ 9
-ensure-up-to-nine true r o h g = g
-ensure-up-to-nine false r o h g = h
+table-not-full : (T : List ℕ) (o : Option Refusal) → o ≢ some TallyFull → ensureTable T o ≢ some TallyFull
+table-not-full T o h = ensure-not-full (isOpen T) NotOpen _ (λ e. never cc) (ensure-not-full (wellFormed T) NotWellFormed o (λ e. never cc) h)
 
--- An add is refused with no number above 9.
-add-up-to-nine : (T : List ℕ) (k : Contact) → refusalNumber (addRefusal T k) ≤ 9
-unfolding addRefusal
-add-up-to-nine T k =
-    ensure-up-to-nine (isOpen T) NotOpen _ (omega arith)
-    (ensure-up-to-nine (wellFormed T) NotWellFormed _ (omega arith)
-    (ensure-up-to-nine (ltb (k .from) (animals T) && ltb (k .to) (animals T)) NoSuchAnimal _ (omega arith)
-    (ensure-up-to-nine (not (eqb (k .from) (k .to))) SameAnimal _ (omega arith)
-    (ensure-up-to-nine (within 1 (k .tick) (ticks T)) TickOutOfRange none (omega arith) (omega arith)))))
+contact-not-full : (T : List ℕ) (k : Contact) (o : Option Refusal) → o ≢ some TallyFull → ensurePair T (k .from) (k .to) (ensureTick T (k .tick) o) ≢ some TallyFull
+contact-not-full T k o h =
+    ensure-not-full (ltb (k .from) (animals T) && ltb (k .to) (animals T)) NoSuchAnimal _ (λ e. never cc)
+    (ensure-not-full (not (eqb (k .from) (k .to))) SameAnimal _ (λ e. never cc)
+    (ensure-not-full (within 1 (k .tick) (ticks T)) TickOutOfRange o (λ e. never cc) h))
 
 -- An uncounted add never answers 16.
 add-not-full : (T : List ℕ) (k : Contact) → addAnswer T k ≡ AddRefused TallyFull → ⊥
-unfolding addAnswer
-add-not-full T k = go (addRefusal T k) (add-up-to-nine T k)
+unfolding addAnswer addRefusal
+add-not-full T k = go (addRefusal T k) (table-not-full T _ (contact-not-full T k none (λ e. never cc)))
   where
     m : ℕ
     m = cellsChanged (animals T) (cellsOf T) (addedCells T k)
 
-    go : (o : Option Refusal) → refusalNumber o ≤ 9 → addAnswerOf o (cond (holds T k) (Known m) (New m)) ≡ AddRefused TallyFull → ⊥
+    go : (o : Option Refusal) → o ≢ some TallyFull → addAnswerOf o (cond (holds T k) (Known m) (New m)) ≡ AddRefused TallyFull → ⊥
     go none h e = known-or-new (holds T k) m TallyFull e
-    go (some r) h e = let q : r ≡ TallyFull = cc in let z : numberOf r ≡ 16 = ap numberOf q in omega arith
+    go (some r) h e = h (let q : r ≡ TallyFull = cc in ap some q)
 
 -- 16 is answered exactly when the tally is full.
-counted-full : (t : Tally) (T : List ℕ) (k : Contact) → (countedAnswer t T k ≡ AddRefused TallyFull) ↔ (fullTally ≤ t .new + t .known + t .refused)
+counted-full : (t : Tally) (T : List ℕ) (k : Contact) → (countedAnswer t T k ≡ AddRefused TallyFull) ↔ (fullTally ≤ t .new + t .known + t .refused + t .removed)
 unfolding tallySum
 counted-full t T k =
-    counted-cases t T k (λ b a L s. (a ≡ AddRefused TallyFull) ↔ (fullTally ≤ t .new + t .known + t .refused)) (λ h. (λ e. omega arith, λ q. refl))
+    counted-cases t T k (λ b a L s. (a ≡ AddRefused TallyFull) ↔ (fullTally ≤ t .new + t .known + t .refused + t .removed)) (λ h. (λ e. omega arith, λ q. refl))
     (λ h. (λ e. absurd (add-not-full T k e), λ q. absurd (omega arith)))
 
 -- A full tally stays as it was.
@@ -175,9 +173,54 @@ legal-accepted : (T : List ℕ) (k : Contact) → ValidTable T → Legal (animal
 legal-accepted T k p l = accepted-none T k .1 (add-iff T k .1 (p, l))
 
 -- So it is by a counted add whose tally has room.
-legal-counted : (t : Tally) (T : List ℕ) (k : Contact) → ValidTable T → Legal (animals T) (ticks T) k → t .new + t .known + t .refused < fullTally → Accepted (countedAnswer t T k)
+legal-counted : (t : Tally) (T : List ℕ) (k : Contact) → ValidTable T → Legal (animals T) (ticks T) k → t .new + t .known + t .refused + t .removed < fullTally → Accepted (countedAnswer t T k)
 unfolding tallySum
 legal-counted t T k p l r = counted-cases t T k (λ b a L s. Accepted a) (λ h. absurd (omega arith)) (λ h. legal-accepted T k p l)
+
+-- ---- counted removing
+
+-- An uncounted removal never answers 16.
+remove-not-full : (T W : List ℕ) (k : Contact) → removeAnswer T W k ≡ DoneRefused TallyFull → ⊥
+unfolding removeAnswer removeRefusal
+remove-not-full T W k e =
+    table-not-full T _
+    (ensure-not-full (eqb (length T) (length W)) DifferentLengths _ (λ q. never cc)
+    (contact-not-full T k _ (ensure-not-full (holds T k) NotHeld none (λ q. never cc) (λ q. never cc))))
+    (done-refused (removeRefusal T W k) TallyFull .0 e)
+
+module _ (t : Tally) (T W : List ℕ) (k : Contact) where
+  -- A counted removal that is refused leaves both tables.
+  removal-kept : (r : Refusal) → countedRemoval t T W k ≡ DoneRefused r → (countedRemovalLeaves t T W k ≡ T) × (countedRemovalWork t T W k ≡ W)
+  removal-kept r = removal-cases t T W k (λ b a L M s. a ≡ DoneRefused r → (L ≡ T) × (M ≡ W)) (λ h e. (refl, refl)) (λ h e. remove-kept T W k r e)
+
+  -- A refusal with another number than 16 is counted.
+  removal-counts : (r : Refusal) → countedRemoval t T W k ≡ DoneRefused r → r ≢ TallyFull
+      → countedRemovalTally t T W k ≡ record { new = t .new; known = t .known; refused = t .refused + 1; removed = t .removed }
+  removal-counts r =
+      removal-cases t T W k (λ b a L M s. a ≡ DoneRefused r → r ≢ TallyFull → s ≡ record { new = t .new; known = t .known; refused = t .refused + 1; removed = t .removed })
+      (λ h e d. absurd (d (let q : TallyFull ≡ r = cc in sym q))) (λ h e d. ap (λ (a : DoneAnswer). raisedByRemoval a t) e)
+
+  -- 16 is answered exactly when the tally is full.
+  removal-full : (countedRemoval t T W k ≡ DoneRefused TallyFull) ↔ (fullTally ≤ t .new + t .known + t .refused + t .removed)
+  unfolding tallySum
+  removal-full =
+      removal-cases t T W k (λ b a L M s. (a ≡ DoneRefused TallyFull) ↔ (fullTally ≤ t .new + t .known + t .refused + t .removed)) (λ h. (λ e. omega arith, λ q. refl))
+      (λ h. (λ e. absurd (remove-not-full T W k e), λ q. absurd (omega arith)))
+
+  -- A full tally stays as it was.
+  removal-full-kept : countedRemoval t T W k ≡ DoneRefused TallyFull → countedRemovalTally t T W k ≡ t
+  removal-full-kept = removal-cases t T W k (λ b a L M s. a ≡ DoneRefused TallyFull → s ≡ t) (λ h e. refl) (λ h e. absurd (remove-not-full T W k e))
+
+  -- A counted removal keeps the lengths of both tables.
+  removal-length : (length (countedRemovalLeaves t T W k) ≡ length T) × (length (countedRemovalWork t T W k) ≡ length W)
+  removal-length = removal-cases t T W k (λ b a L M s. (length L ≡ length T) × (length M ≡ length W)) (λ h. (refl, refl)) (λ h. remove-length T W k)
+
+  -- It keeps a table that passes 5 and 6, and leaves two where it is done.
+  removal-valid : ValidTable T → ValidTable (countedRemovalLeaves t T W k)
+  removal-valid p = removal-cases t T W k (λ b a L M s. ValidTable L) (λ h. p) (λ h. remove-valid T W k p)
+
+  removal-both-valid : countedRemoval t T W k ≡ Done → ValidTable (countedRemovalLeaves t T W k) × ValidTable (countedRemovalWork t T W k)
+  removal-both-valid = removal-cases t T W k (λ b a L M s. a ≡ Done → ValidTable L × ValidTable M) (λ h e. never cc) (λ h. remove-both-valid T W k)
 
 -- ---- a list of question records
 
@@ -332,6 +375,7 @@ demand1 =
       numbers-differ = numbers-differ;
       open-refused = open-kept;
       add-refused = add-kept;
+      remove-refused = remove-kept;
       write-refused = write-kept;
       read-refused = read-kept;
       join-refused = join-kept;
@@ -340,26 +384,36 @@ demand1 =
       reached-empty = reached-empty;
       chain-refused = chain-kept;
       counted-refused = counted-kept;
+      removal-refused = removal-kept;
       list-refused = list-kept;
       counted-counts = counted-counts;
       counted-full = counted-full;
       counted-full-kept = counted-full-kept;
+      removal-counts = removal-counts;
+      removal-full = removal-full;
+      removal-full-kept = removal-full-kept;
       open-length = open-length;
       add-length = add-length;
+      remove-length = remove-length;
       write-length = write-length;
       read-length = read-length;
       join-length = join-length;
       stays-length = stays-length;
       counted-length = counted-length;
+      removal-length = removal-length;
       list-length = list-length;
       reached-length = reached-length;
       chain-length = chain-length;
       open-valid = open-valid;
       read-valid = read-valid;
       add-valid = add-valid;
+      remove-valid = remove-valid;
+      remove-both-valid = remove-both-valid;
       join-valid = join-valid;
       stays-valid = stays-valid;
       counted-valid = counted-valid;
+      removal-valid = removal-valid;
+      removal-both-valid = removal-both-valid;
       legal-accepted = legal-accepted;
       legal-counted = legal-counted;
     }

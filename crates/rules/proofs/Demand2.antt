@@ -1,8 +1,8 @@
--- Demand 2 holds of the engine and the questions of document 01.
+-- Demand 2 holds of the engine and the questions of documents 01 and 02.
 use Rattle.rules.specs.CallLists.{engine}
 use Rattle.rules.specs.Demand2.{questions, Demand2}
 use Rattle.rules.proofs.Judged.{open-none}
-use Rattle.rules.proofs.Runs.{run-fresh}
+use Rattle.rules.proofs.Runs.{left-fresh}
 use Rattle.rules.proofs.EarliestLatest.{earliest-at, earliest-none, latest-at, latest-none}
 use Rattle.rules.proofs.Answered.{stored, reach-yes, reach-no, connected-yes, connected-no, reached-found, reached-eight, reached-bit, reached-count}
 use Rattle.rules.proofs.ChainShown.{named-when, one-chain, chain-is-shown, none-is-shown}
@@ -10,7 +10,7 @@ use Rattle.rules.proofs.ChainShown.{named-when, one-chain, chain-is-sho
 pub demand2 : Demand2 engine questions
 demand2 =
     record {
-      stored = λ n τ δ words A p. stored (run-fresh n τ δ words A (open-none n τ δ words .0 p));
+      stored = λ n τ δ words A p. stored (left-fresh n τ δ words A (open-none n τ δ words .0 p));
       fresh-stored = λ n τ δ S T f. stored f;
       answered = λ n τ δ S T f.
           record {

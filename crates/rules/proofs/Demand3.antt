@@ -1,4 +1,4 @@
--- Demand 3 holds of the engine of document 01.
+-- Demand 3 holds of the engine of documents 01 and 02.
 use mathlib.Core.Path.{_≡_, refl, sym, ap, ap₂, _∙_, subst}
 use mathlib.Core.Logic.{_↔_, inl, inr, _≢_}
 use mathlib.Core.Bool.{Bool, true, false, cond, not}
@@ -26,7 +26,8 @@ use Rattle.rules.specs.Adding.{Legal, sameCell, cellsChanged, addedCells
 use Rattle.rules.specs.Adding as Adding
 use Rattle.rules.specs.Logs.{heldContacts, logWords, writeRefusal, writeAnswer, writeLeaves}
 use Rattle.rules.specs.Fresh.{Fresh}
-use Rattle.rules.specs.CallLists.{engine, tableAfter, LegalOf, Accepted}
+use Rattle.rules.specs.Removing.{removeRefusal, removeAnswer}
+use Rattle.rules.specs.CallLists.{engine, Call, addition, removal, tableAfter, SetLeft, Accepted, AcceptedOn, LegalCall}
 use Rattle.rules.specs.Orders.{Sorted, Pair, Lower}
 use Rattle.rules.specs.Demand3.{SameMinimal, Changed, OneMore, OneList, TwoLists, Demand3}
 use Rattle.rules.proofs.Folds.{flat-member, member-flat}
@@ -37,7 +38,8 @@ use Rattle.rules.proofs.Judged.{ensure-iff, open-iff, open-none, accept
 use Rattle.rules.proofs.Fresh.{fresh-laid, fresh-good, fresh-animals, fresh-carry, fresh-passes, fresh-cells, fresh-accepts, add-fresh, fresh-map, fresh-unique}
 use Rattle.rules.proofs.Sorted.{sorted-flat, sorted-one, member-one}
 use Rattle.rules.proofs.Held.{held-sorted, fresh-holds, fresh-held}
-use Rattle.rules.proofs.Runs.{run-fresh}
+use Rattle.rules.proofs.Removing.{done-none, same-words}
+use Rattle.rules.proofs.Runs.{removal-accepted, left-fresh}
 
 -- ---- the pairs whose cells differ
 
@@ -231,6 +233,12 @@ module _ {n τ δ : ℕ} {S : Contacts} {T : List ℕ} (f : Fresh n τ δ S T) w
   pub fresh-accepted : (k : Contact) → Accepted (addAnswer T k) ↔ Legal n τ k
   fresh-accepted k = let a = accepted-none T k in let b = fresh-accepts f k in (λ h. b .0 (a .0 h), λ h. a .1 (b .1 h))
 
+  -- A call is accepted exactly when it is legal.
+  call-accepted : (c : Call) → AcceptedOn engine T c ↔ LegalCall n τ S c
+  unfolding removeAnswer
+  call-accepted (addition k) = fresh-accepted k
+  call-accepted (removal k W) = let a = done-none (removeRefusal T W k) in let b = removal-accepted f k W in (λ e. b .0 (a .0 e), λ h. a .1 (b .1 h))
+
   write-accepts : (B : List ℕ) → length (heldContacts T) + 2 ≤ length B → writeRefusal T B ≡ none
   unfolding writeRefusal
   write-accepts B h =
@@ -255,10 +263,11 @@ module _ {n τ δ : ℕ} {S : Contacts} {T : List ℕ} (f : Fresh n τ δ S T) w
 
 -- ---- the demand
 
-one-list : (n τ δ : ℕ) (words : List ℕ) (A : List Contact) → openRefusal n τ δ words ≡ none → OneList engine n τ δ words A
+one-list : (n τ δ : ℕ) (words : List ℕ) (A : List Call) → openRefusal n τ δ words ≡ none → OneList engine n τ δ words A
 one-list n τ δ words A e =
     record {
-      accepted = λ P k Q q. fresh-accepted (run-fresh n τ δ words P e) k;
+      accepted = λ P c Q q. call-accepted (left-fresh n τ δ words P e) c;
+      work = λ P k W Q q l. same-words (tableAfter engine n τ δ words P) W k (call-accepted (left-fresh n τ δ words P e) (removal k W) .1 l);
       fresh = f;
       listed = heldContacts (tableAfter engine n τ δ words A);
       sorted = held-sorted (tableAfter engine n τ δ words A);
@@ -268,8 +277,8 @@ one-list n τ δ words A e =
       one-more = fresh-more f;
     }
   where
-    f : Fresh n τ δ (LegalOf n τ A) (tableAfter engine n τ δ words A)
-    f = run-fresh n τ δ words A e
+    f : Fresh n τ δ (SetLeft n τ A) (tableAfter engine n τ δ words A)
+    f = left-fresh n τ δ words A e
 
 -- Equal fresh tables hold the same contacts.
 pub fresh-shared : {n τ δ : ℕ} {S R : Contacts} {T U : List ℕ} → Fresh n τ δ S T → Fresh n τ δ R U → T ≡ U → (k : Contact) → S k → R k
@@ -286,10 +295,10 @@ demand3 =
       loaded = λ n τ δ wordsA wordsB A B p q. two n τ δ wordsA wordsB A B (open-none n τ δ wordsA .0 p) (open-none n τ δ wordsB .0 q);
     }
   where
-    two : (n τ δ : ℕ) (wordsA wordsB : List ℕ) (A B : List Contact) → openRefusal n τ δ wordsA ≡ none → openRefusal n τ δ wordsB ≡ none → TwoLists engine n τ δ wordsA wordsB A B
+    two : (n τ δ : ℕ) (wordsA wordsB : List ℕ) (A B : List Call) → openRefusal n τ δ wordsA ≡ none → openRefusal n τ δ wordsB ≡ none → TwoLists engine n τ δ wordsA wordsB A B
     two n τ δ wordsA wordsB A B p q =
         record {
           first = one-list n τ δ wordsA A p;
           second = one-list n τ δ wordsB B q;
-          equal = fresh-equal (run-fresh n τ δ wordsA A p) (run-fresh n τ δ wordsB B q);
+          equal = fresh-equal (left-fresh n τ δ wordsA A p) (left-fresh n τ δ wordsB B q);
         }

@@ -20,6 +20,7 @@ pub mod EarliestLatest
 pub mod Sorted
 pub mod LogOrder
 pub mod Held
+pub mod Removing
 pub mod Runs
 pub mod AnyOrder
 pub mod Without
@@ -47,6 +48,7 @@ pub mod Claims
 pub mod Session
 pub mod LogExamples
 pub mod JoinExamples
+pub mod RemoveExamples
 pub mod StayExamples
 pub mod ListRule
 pub mod TickRefusals

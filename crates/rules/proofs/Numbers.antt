@@ -4,7 +4,7 @@ use mathlib.Core.List.{List, [], _∷_}
 use Prim.Native.Nat.{ℕ}
 use lib.ListN.{getD}
 use Rattle.rules.specs.declared.Refusal.{Refusal}
-use Rattle.rules.specs.declared.Refusal.the-variants.{AnimalsBeyondLimit, TicksBeyondLimit, CarryBeyondLimit, WrongLength, NotOpen, NotWellFormed, NoSuchAnimal, SameAnimal, TickOutOfRange, ChainBufferTooShort, NotALog, NotAContact, IllegalContact, WrongEnd, LogBufferTooShort, TallyFull, DifferentOpenings, IllegalStay, FirstAfterLast}
+use Rattle.rules.specs.declared.Refusal.the-variants.{AnimalsBeyondLimit, TicksBeyondLimit, CarryBeyondLimit, WrongLength, NotOpen, NotWellFormed, NoSuchAnimal, SameAnimal, TickOutOfRange, ChainBufferTooShort, NotALog, NotAContact, IllegalContact, WrongEnd, LogBufferTooShort, TallyFull, DifferentOpenings, IllegalStay, FirstAfterLast, DifferentLengths, NotHeld}
 use Rattle.rules.specs.Answers.{numberOf}
 
 -- The refusals in the order of their numbers; the first stands for 0 and for 1.
@@ -30,6 +30,8 @@ byNumber =
     ∷ DifferentOpenings
     ∷ IllegalStay
     ∷ FirstAfterLast
+    ∷ DifferentLengths
+    ∷ NotHeld
     ∷ []
 
 -- The refusal of a number.
@@ -57,6 +59,8 @@ named-number TallyFull = refl
 named-number DifferentOpenings = refl
 named-number IllegalStay = refl
 named-number FirstAfterLast = refl
+named-number DifferentLengths = refl
+named-number NotHeld = refl
 
 pub numbers-differ : (r s : Refusal) → numberOf r ≡ numberOf s → r ≡ s
 numbers-differ r s e = sym (named-number r) ∙ ap named e ∙ named-number s

@@ -6,6 +6,7 @@ use Rattle.rules.proofs.Demand3.{demand3}
 use Rattle.rules.proofs.LogsRead.{logs-read}
 use Rattle.rules.proofs.CountedCalls.{counted-rule}
 use Rattle.rules.proofs.AnyOrder.{any-order}
+use Rattle.rules.proofs.Removing.{remove-rule}
 use Rattle.rules.proofs.Joining.{join-rule}
 use Rattle.rules.proofs.Stays.{stay-rule}
 use Rattle.rules.proofs.TableCalls.{table-calls}
@@ -19,6 +20,7 @@ use Rattle.rules.proofs.SheetRule.{sheet-rule}
 use Rattle.rules.proofs.Examples.{marked-hold, worked-hold}
 use Rattle.rules.proofs.LogExamples.{logs-answered}
 use Rattle.rules.proofs.JoinExamples.{joins-worked}
+use Rattle.rules.proofs.RemoveExamples.{removes-worked}
 use Rattle.rules.proofs.StayExamples.{stays-worked}
 use Rattle.rules.proofs.Session.{session-printed}
 use Rattle.rules.proofs.Determined.{determined}
@@ -35,6 +37,7 @@ promised =
       logs-read = logs-read;
       counted-rule = counted-rule;
       any-order = any-order;
+      remove-rule = remove-rule;
       join-rule = join-rule;
       stay-rule = stay-rule;
       table-calls = table-calls;
@@ -49,6 +52,7 @@ promised =
       worked-hold = worked-hold;
       logs-answered = logs-answered;
       joins-worked = joins-worked;
+      removes-worked = removes-worked;
       stays-worked = stays-worked;
       list-examples = list-examples;
       session-printed = session-printed;

@@ -21,10 +21,10 @@ use Rattle.rules.specs.declared.Refusal.the-variants.{NotALog, WrongLeng
 use Rattle.rules.specs.declared.LogWord.the-variants.{Legal as LegalWord, NoContact, NotLegal}
 use Rattle.rules.specs.Layout.{tableLength, animals, ticks, carry}
 use Rattle.rules.specs.Opening.{Sizes, openRefusal}
-use Rattle.rules.specs.Adding.{Legal}
+use Rattle.rules.specs.Adding.{Legal, sameContact}
 use Rattle.rules.specs.Logs.{logWords}
 use Rattle.rules.specs.LogsRead.{IsLog}
-use Rattle.rules.specs.Reading.{isLog, between, loggedContacts, isTrueEnd, isLegal, logWord, ensureLegal, ensureWords, readRefusal, sameContact, comesIn, different}
+use Rattle.rules.specs.Reading.{isLog, between, loggedContacts, isTrueEnd, isLegal, logWord, ensureLegal, ensureWords, readRefusal, comesIn, different}
 use Rattle.rules.proofs.Folds.{and-left, and-right, and-intro, passes-iff, map-back, member-outcome}
 use Rattle.rules.proofs.Distinct.{Once, once-short}
 use Rattle.rules.proofs.Decode.{animals-again, ticks-again, carry-again}
@@ -148,7 +148,7 @@ read-opens L T h = open-iff (animals L) (ticks L) (carry L) T .1 (table-sizes L,
 
 -- ---- how many different contacts
 
-sameContact-outcome : (k c : Contact) → Outcome (k ≡ c) (k ≢ c) (sameContact k c)
+pub sameContact-outcome : (k c : Contact) → Outcome (k ≡ c) (k ≢ c) (sameContact k c)
 sameContact-outcome k c = go (and-outcome (and-outcome (eq-outcome (k .from) (c .from)) (eq-outcome (k .to) (c .to))) (eq-outcome (k .tick) (c .tick)))
   where
     go : {b : Bool} → Outcome (((k .from ≡ c .from) × (k .to ≡ c .to)) × (k .tick ≡ c .tick)) (((k .from ≢ c .from) ⊎ (k .to ≢ c .to)) ⊎ (k .tick ≢ c .tick)) b → Outcome (k ≡ c) (k ≢ c) b

@@ -22,7 +22,7 @@ use Rattle.rules.specs.Adding as Adding
 use Rattle.rules.specs.Chains.{departureWith, leads, lowest, chainFrom, chainOf, chainRefusal, chainLeaves}
 use Rattle.rules.specs.Questions.{reaches, reachRefusal, reachAnswer, momentRefusal, earliestAnswer, latestAnswer, connects, connectedRefusal, connectedAnswer, isReached, setWord, setWords, reachedRefusal, reachedWords, reachedCount}
 use Rattle.rules.specs.Fresh.{Fresh}
-use Rattle.rules.specs.CallLists.{Engine, engine, run, tableAfter, LegalOf}
+use Rattle.rules.specs.CallLists.{Engine, engine, run, tableWith, LegalOf}
 use Rattle.rules.specs.Windows.{IsWindow, IsPair}
 use Rattle.rules.specs.Demand2.{Questions, questions, BitSet, AnsweredOn, Demand2}
 use Rattle.rules.specs.Determined.{AgreeOn}
@@ -36,7 +36,7 @@ abbrev met : List Contact
 met = contact 0 1 1 ∷ contact 0 1 2 ∷ []
 
 abbrev table : List ℕ
-table = tableAfter engine 2 2 1 (replicate 13 0) met
+table = tableWith 2 2 1 (replicate 13 0) met
 
 table-fresh : Fresh 2 2 1 (LegalOf 2 2 met) table
 unfolding openRefusal
@@ -84,7 +84,7 @@ abbrev loaded : List Contact
 loaded = contact 0 2 1 ∷ contact 0 1 1 ∷ contact 2 3 2 ∷ contact 1 3 2 ∷ []
 
 abbrev forked : List ℕ
-forked = tableAfter engine 4 2 1 (replicate 49 0) loaded
+forked = tableWith 4 2 1 (replicate 49 0) loaded
 
 forked-fresh : Fresh 4 2 1 (LegalOf 4 2 loaded) forked
 unfolding openRefusal

@@ -2,40 +2,29 @@
 use mathlib.Core.Path.{_≡_, refl, sym, _∙_, subst}
 use mathlib.Core.Logic.{_↔_, _⊎_, inl, inr, ⊎-elim}
 use mathlib.Core.Option.{Option, none, some}
-use mathlib.Core.List.{List, [], _∷_, List·Memᴰ·head, List·Memᴰ·eq-of-singleton}
+use mathlib.Core.List.{List, [], _∷_}
 use Prim.Native.Nat.{ℕ}
-use Rattle.journeys.specs.Journey.{Contact, Contacts, In, Union}
+use Rattle.journeys.specs.Journey.{Contacts, In, Union}
 use Rattle.rules.specs.declared.Refusal.{Refusal}
 use Rattle.rules.specs.declared.OpenAnswer.the-variants.{Opened}
 use Rattle.rules.specs.Answers.{unless}
 use Rattle.rules.specs.Opening.{openAnswer, openLeaves}
-use Rattle.rules.specs.Adding.{Legal, addLeaves}
 use Rattle.rules.specs.Logs.{heldContacts}
 use Rattle.rules.specs.Fresh.{Fresh}
-use Rattle.rules.specs.CallLists.{run}
 use Rattle.rules.specs.Joining.{joinRefusal, joinLeaves}
 use Rattle.rules.specs.Stays.{staysOf, staysRefusal, staysLeaves}
 use Rattle.rules.specs.StayRule.{AreStays, Met}
-use Rattle.rules.specs.TableCalls.{TableCall, adding, joining, staying, callLeaves, runCalls, Joinable, ContactsAfter, ContactsLeft, TableCalls}
+use Rattle.rules.specs.TableCalls.{TableCall, adding, removing, joining, staying, callLeaves, runCalls, Joinable, ContactsAfter, ContactsLeft, TableCalls}
 use Rattle.rules.proofs.Judged.{open-none}
 use Rattle.rules.proofs.Groups.{some-is-not-none}
 use Rattle.rules.proofs.Laid.{laid-first}
 use Rattle.rules.proofs.Fresh.{fresh-laid, fresh-animals, fresh-ticks, fresh-passes, fresh-map, open-fresh}
-use Rattle.rules.proofs.Runs.{run-union}
+use Rattle.rules.proofs.Runs.{add-after, remove-after}
 use Rattle.rules.proofs.Joining.{join-iff, joined-leaves, first-fresh}
 use Rattle.rules.proofs.Stays.{stays-iff, added-leaves, fresh-stays, stays-fresh}
 use Rattle.rules.proofs.Demand3.{fresh-equal}
 
 module _ {n τ δ : ℕ} {P : Contacts} {T : List ℕ} (f : Fresh n τ δ P T) where
-  add-after : (k : Contact) → Fresh n τ δ (ContactsAfter n τ δ P (adding k)) (addLeaves T k)
-  unfolding run
-  add-after k =
-      fresh-map (run-union (k ∷ []) f)
-      (λ c. (
-        ⊎-elim inl (λ h. let e = List·Memᴰ·eq-of-singleton (h .0) in inr (e, subst (Legal n τ) e (h .1))),
-        ⊎-elim inl (λ h. inr (List·Memᴰ·head (h .0), subst (Legal n τ) (sym (h .0)) (h .1))),
-      ))
-
   -- The second can be joined exactly when the join is not refused.
   joinable-iff : (S : List ℕ) → (joinRefusal T S ≡ none) ↔ Joinable n τ δ S
   joinable-iff S =
@@ -69,7 +58,8 @@ module _ {n τ δ : ℕ} {P : Contacts} {T : List ℕ} (f : Fresh n τ δ P T) w
 
   -- One call.
   call-after : (c : TableCall) → Fresh n τ δ (ContactsAfter n τ δ P c) (callLeaves T c)
-  call-after (adding k) = add-after k
+  call-after (adding k) = add-after f k
+  call-after (removing k W) = remove-after f k W
   call-after (joining S) = join-after S
   call-after (staying W) = stays-after W
 

@@ -2,9 +2,9 @@
 use Prim.Native.Nat.{ℕ, _+_, _≤_, _<_}
 use mathlib.Core.Logic.{_≢_}
 use mathlib.Core.Bool.{Bool, true, false, cond, not, _&&_, _||_}
-use mathlib.Core.Option.{Option, none, some}
+use mathlib.Core.Option.{Option, none}
 use mathlib.Core.List.{List, [], _∷_}
-use lib.Dec.{leb, ltb, eqb}
+use lib.Dec.{ltb, eqb}
 use Rattle.journeys.specs.Journey.{Contact, Interval, interval}
 use Rattle.journeys.specs.Cell.{Cell}
 use Rattle.journeys.specs.Adding.{Cells, add}
@@ -24,6 +24,10 @@ pub record Legal (n τ : ℕ) (k : Contact) : Type 0 where
   pub apart : k .from ≢ k .to
   pub from-one : 1 ≤ k .tick
   pub to-last : k .tick ≤ τ
+
+-- The two are equal.
+abbrev pub sameContact : Contact → Contact → Bool
+sameContact k c = eqb (k .from) (c .from) && eqb (k .to) (c .to) && eqb (k .tick) (c .tick)
 
 -- The two are equal.
 abbrev pub sameInterval : Interval → Interval → Bool

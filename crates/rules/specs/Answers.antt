@@ -4,7 +4,7 @@ use mathlib.Core.Option.{Option, none, some}
 use mathlib.Core.Bool.{Bool, true, false}
 use Rattle.journeys.specs.Journey.{Interval}
 use Rattle.rules.specs.declared.Refusal.{Refusal}
-use Rattle.rules.specs.declared.Refusal.the-variants.{AnimalsBeyondLimit, TicksBeyondLimit, CarryBeyondLimit, WrongLength, NotOpen, NotWellFormed, NoSuchAnimal, SameAnimal, TickOutOfRange, ChainBufferTooShort, NotALog, NotAContact, IllegalContact, WrongEnd, LogBufferTooShort, TallyFull, DifferentOpenings, IllegalStay, FirstAfterLast}
+use Rattle.rules.specs.declared.Refusal.the-variants.{AnimalsBeyondLimit, TicksBeyondLimit, CarryBeyondLimit, WrongLength, NotOpen, NotWellFormed, NoSuchAnimal, SameAnimal, TickOutOfRange, ChainBufferTooShort, NotALog, NotAContact, IllegalContact, WrongEnd, LogBufferTooShort, TallyFull, DifferentOpenings, IllegalStay, FirstAfterLast, DifferentLengths, NotHeld}
 use Rattle.rules.specs.declared.OpenAnswer.{OpenAnswer}
 use Rattle.rules.specs.declared.OpenAnswer.the-variants.{Opened, Refused as OpenRefused}
 use Rattle.rules.specs.declared.AddAnswer.{AddAnswer}
@@ -17,6 +17,8 @@ use Rattle.rules.specs.declared.JoinAnswer.{JoinAnswer}
 use Rattle.rules.specs.declared.JoinAnswer.the-variants.{Joined, Refused as JoinRefused}
 use Rattle.rules.specs.declared.StaysAnswer.{StaysAnswer}
 use Rattle.rules.specs.declared.StaysAnswer.the-variants.{Added, Refused as StaysRefused}
+use Rattle.rules.specs.declared.DoneAnswer.{DoneAnswer}
+use Rattle.rules.specs.declared.DoneAnswer.the-variants.{Done, Refused as DoneRefused}
 use Rattle.rules.specs.declared.AskAnswer.{AskAnswer}
 use Rattle.rules.specs.declared.AskAnswer.the-variants.{Yes, No, Refused as AskRefused}
 use Rattle.rules.specs.declared.Ends.{Ends}
@@ -52,6 +54,8 @@ numberOf TallyFull = 16
 numberOf DifferentOpenings = 17
 numberOf IllegalStay = 18
 numberOf FirstAfterLast = 19
+numberOf DifferentLengths = 20
+numberOf NotHeld = 21
 
 -- ---- which answer each case is, and its number, as one reply: 0 is a refusal with its number, 1 and 2 are the answers of the call
 
@@ -89,6 +93,11 @@ joinReply (JoinRefused r) = reply 0 (numberOf r)
 abbrev pub staysReply : StaysAnswer → ℕ
 staysReply (Added k) = reply 1 k
 staysReply (StaysRefused r) = reply 0 (numberOf r)
+
+-- 1 done.
+abbrev pub doneReply : DoneAnswer → ℕ
+doneReply Done = reply 1 0
+doneReply (DoneRefused r) = reply 0 (numberOf r)
 
 -- 1 yes, 2 no.
 abbrev pub askReply : AskAnswer → ℕ
@@ -160,6 +169,10 @@ joinAnswerOf (some r) a = JoinRefused r
 abbrev pub staysAnswerOf : Option Refusal → StaysAnswer → StaysAnswer
 staysAnswerOf none a = a
 staysAnswerOf (some r) a = StaysRefused r
+
+abbrev pub doneAnswerOf : Option Refusal → DoneAnswer → DoneAnswer
+doneAnswerOf none a = a
+doneAnswerOf (some r) a = DoneRefused r
 
 -- Yes where the test passes, else no.
 abbrev pub askAnswerOf : Option Refusal → Bool → AskAnswer

@@ -20,7 +20,7 @@ use Rattle.rules.specs.declared.OpenAnswer.the-variants.{Opened}
 use Rattle.rules.specs.Layout.{cellAt, cellOf}
 use Rattle.rules.specs.Questions.{reachAnswer, earliestAnswer, latestAnswer, connectedAnswer, reachedAnswer, reachedWords, reachedCount}
 use Rattle.rules.specs.Fresh.{Fresh}
-use Rattle.rules.specs.CallLists.{Engine, tableAfter, LegalOf}
+use Rattle.rules.specs.CallLists.{Engine, Call, tableAfter, SetLeft}
 use Rattle.rules.specs.Orders.{Sorted}
 use Rattle.rules.specs.Windows.{IsWindow, IsPair, Fits}
 use Rattle.rules.specs.EarliestLatest.{Earliest, Latest, NoneDeparts, NoneArrives}
@@ -113,10 +113,10 @@ module _ (Q : Questions) (n τ δ : ℕ) (S : Contacts) (T : List ℕ) where
 
 pub record Demand2 (E : Engine) (Q : Questions) : Type 1 where
   -- "After any contacts, the stored intervals of each ordered pair of different animals are just the minimal journey
-  -- intervals of those contacts, as the timed transitive closure papers define them": the contacts are the legal ones of any
-  -- list of calls, run on an opened table.
-  pub stored : (n τ δ : ℕ) (words : List ℕ) (A : List Contact) → E .open-answer n τ δ words ≡ Opened → (u v : ℕ) → IsPair n u v
-      → (i : Interval) → StoredIn n τ (tableAfter E n τ δ words A) u v i ↔ Minimal (LegalOf n τ A) δ u v i
+  -- intervals of those contacts, as the timed transitive closure papers define them": the contacts are those that any list of
+  -- adds and removals leaves, made on an opened table.
+  pub stored : (n τ δ : ℕ) (words : List ℕ) (A : List Call) → E .open-answer n τ δ words ≡ Opened → (u v : ℕ) → IsPair n u v
+      → (i : Interval) → StoredIn n τ (tableAfter E n τ δ words A) u v i ↔ Minimal (SetLeft n τ A) δ u v i
   -- So are those of any fresh table, however it came about.
   pub fresh-stored : (n τ δ : ℕ) (S : Contacts) (T : List ℕ) → Fresh n τ δ S T → (u v : ℕ) → IsPair n u v → (i : Interval) → StoredIn n τ T u v i ↔ Minimal S δ u v i
   -- The second and the third sentence, on any fresh table.

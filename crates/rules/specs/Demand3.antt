@@ -1,4 +1,5 @@
--- Demand 3 of the tender, as one statement about two whole lists of calls, with its own words above its parts.
+-- Demand 3 of the tender, as one statement about two whole lists of calls, with its own words above its parts. Since document 02, Seven, the calls
+-- are uncounted adds and removals, and the contacts of a list are the set that is left at its end.
 use Prim.Native.Nat.{ℕ, _+_, _≤_, _<_}
 use mathlib.Core.Path.{_≡_}
 use mathlib.Core.Logic.{_↔_, _≢_}
@@ -14,7 +15,7 @@ use Rattle.rules.specs.Opening.{Sizes}
 use Rattle.rules.specs.Adding.{Legal}
 use Rattle.rules.specs.Logs.{logWords}
 use Rattle.rules.specs.Fresh.{Fresh}
-use Rattle.rules.specs.CallLists.{Engine, tableAfter, LegalOf, Accepted}
+use Rattle.rules.specs.CallLists.{Engine, Call, removal, tableAfter, AcceptedOn, LegalCall, SetLeft}
 use Rattle.rules.specs.Orders.{Sorted, Earlier, Pair, Lower}
 
 -- ---- the words of the demand
@@ -49,33 +50,37 @@ module _ (E : Engine) (n τ δ : ℕ) where
     pub larger : Fresh n τ δ (With S k) (E .add-leaves T k)
 
   -- What is said of one list of calls, run on its own table.
-  pub record OneList (words : List ℕ) (A : List Contact) : Type 0 where
-    -- "a call is accepted exactly when it is legal"
-    pub accepted : (P : List Contact) (k : Contact) (Q : List Contact) → P ++ (k ∷ Q) ≡ A → Accepted (E .add-answer (tableAfter E n τ δ words P) k) ↔ Legal n τ k
+  pub record OneList (words : List ℕ) (A : List Call) : Type 0 where
+    -- "a call is accepted exactly when it is legal": a removal exactly when its contact is in the set that the calls before it left and the
+    -- second table lent has the first's length
+    pub accepted : (P : List Call) (c : Call) (Q : List Call) → P ++ (c ∷ Q) ≡ A → AcceptedOn E (tableAfter E n τ δ words P) c ↔ LegalCall n τ (SetLeft n τ P) c
+    -- what the second table holds after a legal removal is the same as the first
+    pub work : (P : List Call) (k : Contact) (W : List ℕ) (Q : List Call) → P ++ (removal k W ∷ Q) ≡ A → LegalCall n τ (SetLeft n τ P) (removal k W)
+        → E .remove-work (tableAfter E n τ δ words P) W k ≡ E .remove-leaves (tableAfter E n τ δ words P) W k
     -- "each being the fresh table over its own"
-    pub fresh : Fresh n τ δ (LegalOf n τ A) (tableAfter E n τ δ words A)
+    pub fresh : Fresh n τ δ (SetLeft n τ A) (tableAfter E n τ δ words A)
     -- "each table's log, in a buffer long enough for it, lists that table's own legal contacts once in sorted order"
     pub listed : List Contact
     pub sorted : Sorted Earlier listed
-    pub own : (k : Contact) → List·Memᴰ k listed ↔ LegalOf n τ A k
+    pub own : (k : Contact) → List·Memᴰ k listed ↔ SetLeft n τ A k
     pub written : (B : List ℕ) → length listed + 2 ≤ length B → E .write-answer (tableAfter E n τ δ words A) B ≡ Written (length listed + 2)
     pub log : (B : List ℕ) → length listed + 2 ≤ length B
         → E .write-leaves (tableAfter E n τ δ words A) B ≡ logWords (openingWord n τ δ) listed ++ drop (length listed + 2) B
     -- "one legal contact more, added uncounted, …"
-    pub one-more : (k : Contact) → Legal n τ k → OneMore (LegalOf n τ A) (tableAfter E n τ δ words A) k
+    pub one-more : (k : Contact) → Legal n τ k → OneMore (SetLeft n τ A) (tableAfter E n τ δ words A) k
 
   -- What is said of two lists of calls.
-  pub record TwoLists (wordsA wordsB : List ℕ) (A B : List Contact) : Type 0 where
+  pub record TwoLists (wordsA wordsB : List ℕ) (A B : List Call) : Type 0 where
     pub first : OneList wordsA A
     pub second : OneList wordsB B
-    -- "the two tables end equal in every word exactly when the legal contacts of A and of B form the same set"
-    pub equal : (tableAfter E n τ δ wordsA A ≡ tableAfter E n τ δ wordsB B) ↔ Same (LegalOf n τ A) (LegalOf n τ B)
+    -- "the two tables end equal in every word exactly when the legal contacts of A and of B form the same set": the sets left at their ends
+    pub equal : (tableAfter E n τ δ wordsA A ≡ tableAfter E n τ δ wordsB B) ↔ Same (SetLeft n τ A) (SetLeft n τ B)
 
 -- "Let A and B be any two lists of uncounted contact calls, refused ones included, each list run on a table of its own,
 -- freshly opened, with the same number of animals, number of ticks and carry time for both; each call takes the table
--- as the last one left it, and nobody else writes it meanwhile."
+-- as the last one left it, and nobody else writes it meanwhile." Removals are among the calls, each with the words lent for its work.
 pub record Demand3 (E : Engine) : Type 0 where
   -- A table can be freshly opened just when the three numbers lie within their limits and it has the length for them.
   pub opened : (n τ δ : ℕ) (words : List ℕ) → (E .open-answer n τ δ words ≡ Opened) ↔ (Sizes n τ δ × (length words ≡ tableLength n τ))
-  pub loaded : (n τ δ : ℕ) (wordsA wordsB : List ℕ) (A B : List Contact) → E .open-answer n τ δ wordsA ≡ Opened → E .open-answer n τ δ wordsB ≡ Opened
+  pub loaded : (n τ δ : ℕ) (wordsA wordsB : List ℕ) (A B : List Call) → E .open-answer n τ δ wordsA ≡ Opened → E .open-answer n τ δ wordsB ≡ Opened
       → TwoLists E n τ δ wordsA wordsB A B

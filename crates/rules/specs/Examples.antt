@@ -23,7 +23,7 @@ use Rattle.rules.specs.Adding.{addAnswer}
 use Rattle.rules.specs.Questions.{reachAnswer, earliestAnswer, latestAnswer, connectedAnswer, reachedAnswer, reachedCount, reachedLeaves}
 use Rattle.rules.specs.Chains.{chainAnswer, chainLeaves}
 use Rattle.rules.specs.Claims.{claimedAnswer}
-use Rattle.rules.specs.CallLists.{engine, tableAfter}
+use Rattle.rules.specs.CallLists.{tableWith}
 
 -- A call on a table, with the words lent to it beside the table.
 pub data Call : Type 0 where
@@ -75,7 +75,7 @@ pub record ExampleTable : Type 0 where
   pub rows : List Row
 
 abbrev pub exampleTable : ExampleTable → List ℕ
-exampleTable s = tableAfter engine (s .animals) (s .ticks) (s .carry) (replicate (tableLength (s .animals) (s .ticks)) 0) (s .contacts)
+exampleTable s = tableWith (s .animals) (s .ticks) (s .carry) (replicate (tableLength (s .animals) (s .ticks)) 0) (s .contacts)
 
 -- Every row of every table holds.
 abbrev pub AllHold : List ExampleTable → Type 0

@@ -33,14 +33,14 @@ abbrev pub joinOf : JoinRow → JoinGiven
 joinOf r = record { answer = joinAnswer (r .first) (r .second); left = joinLeaves (r .first) (r .second) }
 
 -- The table of three animals, three ticks and carry time 1 with these intervals in its cells (0, 1), (1, 2) and (0, 2), which no adds need have built.
-abbrev stored : Cell → Cell → Cell → List ℕ
+abbrev pub stored : Cell → Cell → Cell → List ℕ
 stored a b c = tableWords 3 3 1 (λ u v. cond (eqb u 0 && eqb v 1) a (cond (eqb u 1 && eqb v 2) b (cond (eqb u 0 && eqb v 2) c [])))
 
 -- The table without contacts, and those over (0, 1, 1), over (1, 2, 3), over both, and over (0, 1, 1) and (1, 2, 2).
-abbrev none : List ℕ
+abbrev pub none : List ℕ
 none = stored [] [] []
 
-abbrev early : List ℕ
+abbrev pub early : List ℕ
 early = stored (interval 1 2 ∷ []) [] []
 
 abbrev late : List ℕ
@@ -49,11 +49,11 @@ late = stored [] (interval 3 4 ∷ []) []
 abbrev both : List ℕ
 both = stored (interval 1 2 ∷ []) (interval 3 4 ∷ []) (interval 1 4 ∷ [])
 
-abbrev chained : List ℕ
+abbrev pub chained : List ℕ
 chained = stored (interval 1 2 ∷ []) (interval 2 3 ∷ []) (interval 1 3 ∷ [])
 
 -- A table with a first cell that is not well formed.
-abbrev damaged : List ℕ → List ℕ
+abbrev pub damaged : List ℕ → List ℕ
 damaged T = set T 1 0
 
 abbrev pub joinRows : List JoinRow

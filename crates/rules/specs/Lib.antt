@@ -8,10 +8,12 @@ pub mod Adding
 pub mod Orders
 pub mod Logs
 pub mod Fresh
+pub mod Removing
 pub mod CallLists
 pub mod AnyOrder
 pub mod Joining
 pub mod JoinRule
+pub mod RemoveRule
 pub mod Stays
 pub mod StayRule
 pub mod TableCalls
@@ -42,6 +44,7 @@ pub mod WrongAnswers
 pub mod Examples
 pub mod LogExamples
 pub mod JoinExamples
+pub mod RemoveExamples
 pub mod StayExamples
 pub mod Session
 pub mod Promised

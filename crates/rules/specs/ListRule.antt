@@ -16,7 +16,7 @@ use Rattle.rules.specs.Answers.{numberOf}
 use Rattle.rules.specs.Layout.{tableLength}
 use Rattle.rules.specs.Checks.{ensureTable}
 use Rattle.rules.specs.Questions.{reachAnswer}
-use Rattle.rules.specs.CallLists.{engine, tableAfter}
+use Rattle.rules.specs.CallLists.{tableWith}
 use Rattle.rules.specs.QuestionList.{listAnswer, listLeaves}
 
 -- The record r is q filled: its question is that of q, and its answer is what a single reach answers, a refusal by its number.
@@ -41,7 +41,7 @@ holding a u v first last = record { from = u; to = v; first = first; last = last
 
 -- The table of the session.
 abbrev sessionTable : List ℕ
-sessionTable = tableAfter engine 4 6 1 (replicate (tableLength 4 6) 0) (contact 0 1 1 ∷ contact 0 1 2 ∷ contact 1 3 4 ∷ [])
+sessionTable = tableWith 4 6 1 (replicate (tableLength 4 6) 0) (contact 0 1 1 ∷ contact 0 1 2 ∷ contact 1 3 4 ∷ [])
 
 -- A list before it is asked: P1, P2 and P3, then an animal that is none, one animal twice, a window past the last tick, one turned round, and one
 -- that is both.

@@ -16,7 +16,8 @@ use Rattle.rules.specs.declared.LogWord.{LogWord}
 use Rattle.rules.specs.declared.LogWord.the-variants.{Legal, NoContact, NotLegal}
 use Rattle.rules.specs.Answers.{ensure, unless, readAnswerOf}
 use Rattle.rules.specs.Layout.{tableLength, animals, ticks, carry}
-use Rattle.rules.specs.CallLists.{engine, tableAfter}
+use Rattle.rules.specs.Adding.{sameContact}
+use Rattle.rules.specs.CallLists.{tableWith}
 
 -- ---- the words of a log; `animals`, `ticks` and `carry` are those of its first word
 
@@ -68,10 +69,6 @@ readRefusal L T =
 
 -- ---- the reply and the words left
 
--- The two are equal.
-abbrev pub sameContact : Contact → Contact → Bool
-sameContact k c = eqb (k .from) (c .from) && eqb (k .to) (c .to) && eqb (k .tick) (c .tick)
-
 -- The contact stands in the list.
 unfoldable pub comesIn : Contact → List Contact → Bool
 comesIn k [] = false
@@ -87,4 +84,4 @@ readAnswer L T = readAnswerOf (readRefusal L T) (Read (different (loggedContacts
 
 -- The table's words afterwards: those of the log's opening with its contacts added, once nothing in the log is refused.
 unfoldable pub readLeaves : List ℕ → List ℕ → List ℕ
-readLeaves L T = unless (readRefusal L T) (tableAfter engine (animals L) (ticks L) (carry L) T (loggedContacts L)) T
+readLeaves L T = unless (readRefusal L T) (tableWith (animals L) (ticks L) (carry L) T (loggedContacts L)) T

@@ -10,22 +10,27 @@ use Rattle.words.specs.Words.{openingWord}
 use Rattle.rules.specs.declared.OpenAnswer.the-variants.{Opened}
 use Rattle.rules.specs.Checks.{ValidTable}
 use Rattle.rules.specs.Opening.{openAnswer, openLeaves}
-use Rattle.rules.specs.Adding.{Legal, addLeaves}
+use Rattle.rules.specs.Adding.{addLeaves}
 use Rattle.rules.specs.Logs.{heldContacts}
 use Rattle.rules.specs.Fresh.{Fresh}
+use Rattle.rules.specs.Removing.{removeLeaves}
+use Rattle.rules.specs.CallLists.{PutIn, TakenOut}
 use Rattle.rules.specs.Joining.{joinLeaves}
 use Rattle.rules.specs.Stays.{staysOf, staysLeaves}
 use Rattle.rules.specs.StayRule.{AreStays, Met}
 
--- A call: the contact that is added, the words of the second table that is joined, or the words of the stays whose contacts are added.
+-- A call: the contact that is added, the contact that is removed and the words of the second table lent for it, the words of the second table
+-- that is joined, or the words of the stays whose contacts are added.
 pub data TableCall : Type 0 where
   adding : Contact → TableCall
+  removing : Contact → List ℕ → TableCall
   joining : List ℕ → TableCall
   staying : List ℕ → TableCall
 
 -- The table that the call leaves.
 abbrev pub callLeaves : List ℕ → TableCall → List ℕ
 callLeaves T (adding k) = addLeaves T k
+callLeaves T (removing k W) = removeLeaves T W k
 callLeaves T (joining S) = joinLeaves T S
 callLeaves T (staying W) = staysLeaves T W
 
@@ -40,10 +45,12 @@ module _ (n τ δ : ℕ) where
     pub valid : ValidTable S
     pub opening : getD S 0 0 ≡ openingWord n τ δ
 
-  -- The contacts that the call leaves where P was there before: an add puts a legal contact in, a join the contacts held by a table that can be
-  -- joined, a list of stays the contacts that two of its records tell; a call that is refused leaves P.
+  -- The contacts that the call leaves where P was there before: an add puts a legal contact in, a removal with a second table of the first's
+  -- length takes its contact out, a join puts in the contacts held by a table that can be joined, a list of stays the contacts that two of its
+  -- records tell; a call that is refused leaves P.
   abbrev pub ContactsAfter : Contacts → TableCall → Contacts
-  ContactsAfter P (adding k) c = P c ⊎ ((c ≡ k) × Legal n τ k)
+  ContactsAfter P (adding k) c = PutIn n τ P k c
+  ContactsAfter P (removing k W) c = TakenOut n τ P k W c
   ContactsAfter P (joining S) c = P c ⊎ (List·Memᴰ c (heldContacts S) × Joinable S)
   ContactsAfter P (staying W) c = P c ⊎ (Met (staysOf W) c × AreStays n τ W)
 

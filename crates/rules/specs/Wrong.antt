@@ -1,24 +1,29 @@
--- Wrong engines that demands 2 and 3 shut out (document 01, last paragraph: "Reject").
+-- Wrong engines that demands 2 and 3 shut out (document 01, last paragraph: "Reject"; removals, document 02, Seven).
 use Prim.Native.Nat.{ℕ, _+_}
 use mathlib.Core.Bool.{Bool, true, false, cond, not, _&&_, _||_}
 use mathlib.Core.Option.{Option, none, some}
 use mathlib.Core.List.{List, [], _∷_, _++_}
 use lib.ListN.{length, getD, drop}
-use lib.Dec.{eqb, ltb}
-use Rattle.journeys.specs.Journey.{Contact, interval}
-use Rattle.journeys.specs.Cell.{Cell, hasInside, putInOrder, enter, latestDeparture, earliestArrival}
-use Rattle.journeys.specs.Adding.{Cells, departureOf, arrivalOf, enterBoth}
+use lib.Dec.{eqb}
+use Rattle.journeys.specs.Journey.{Contact, Interval, interval}
+use Rattle.journeys.specs.Cell.{Cell, putInOrder, enter}
+use Rattle.journeys.specs.Adding.{Cells, departureOf, arrivalOf, enterBoth, cellsOver}
 use Rattle.rules.specs.declared.Refusal.{Refusal}
-use Rattle.rules.specs.declared.Refusal.the-variants.{AnimalsBeyondLimit, NoSuchAnimal}
+use Rattle.rules.specs.declared.Refusal.the-variants.{AnimalsBeyondLimit, NoSuchAnimal, NotHeld}
 use Rattle.rules.specs.declared.OpenAnswer.{OpenAnswer}
 use Rattle.rules.specs.declared.OpenAnswer.the-variants.{Refused as OpenRefused}
 use Rattle.rules.specs.declared.AddAnswer.{AddAnswer}
 use Rattle.rules.specs.declared.AddAnswer.the-variants.{New, Known, Refused as AddRefused}
-use Rattle.rules.specs.Answers.{unless, addAnswerOf}
-use Rattle.rules.specs.Folds.{flat, allBelow}
+use Rattle.rules.specs.declared.DoneAnswer.{DoneAnswer}
+use Rattle.rules.specs.declared.DoneAnswer.the-variants.{Done, Refused as DoneRefused}
+use Rattle.rules.specs.Answers.{unless, addAnswerOf, doneAnswerOf}
+use Rattle.rules.specs.Folds.{allBelow}
 use Rattle.rules.specs.Layout.{tableWords, animals, ticks, carry, cellsOf}
-use Rattle.rules.specs.Adding.{addRefusal, holds, addedCells, cellsChanged}
+use Rattle.rules.specs.Checks.{ensureTable}
+use Rattle.rules.specs.Adding.{sameInterval, stands, ensurePair, ensureTick, addRefusal, holds, addedCells, cellsChanged}
+use Rattle.rules.specs.Orders.{inLogOrder}
 use Rattle.rules.specs.Logs.{heldContacts, logWords, writeRefusal}
+use Rattle.rules.specs.Removing.{ensureSameLength, ensureHeld, removeRefusal, remaining, tableWithout, removeAnswer, removeLeaves}
 use Rattle.rules.specs.CallLists.{Engine, engine}
 use Rattle.rules.specs.Demand2.{Questions, Demand2}
 use Rattle.rules.specs.Demand3.{Demand3}
@@ -38,6 +43,9 @@ engineBut opens opened adds added written =
       open-leaves = given opened (engine .open-leaves);
       add-answer = given adds (engine .add-answer);
       add-leaves = given added (engine .add-leaves);
+      remove-answer = engine .remove-answer;
+      remove-leaves = engine .remove-leaves;
+      remove-work = engine .remove-work;
       write-answer = engine .write-answer;
       write-leaves = given written (engine .write-leaves);
     }
@@ -135,6 +143,87 @@ unsortedLog = withLog backwards
 abbrev pub repeatsInLog : Engine
 repeatsInLog = withLog (λ l. l ++ l)
 
+-- ---- what a removal answers and leaves
+
+-- The engine of documents 01 and 02, but for what a removal answers, what it leaves of the first table and what of the second.
+abbrev removesBy : (List ℕ → List ℕ → Contact → DoneAnswer) → (List ℕ → List ℕ → Contact → List ℕ) → (List ℕ → List ℕ → Contact → List ℕ) → Engine
+removesBy answer left work =
+    record {
+      open-answer = engine .open-answer;
+      open-leaves = engine .open-leaves;
+      add-answer = engine .add-answer;
+      add-leaves = engine .add-leaves;
+      remove-answer = answer;
+      remove-leaves = left;
+      remove-work = work;
+      write-answer = engine .write-answer;
+      write-leaves = engine .write-leaves;
+    }
+
+-- Another rule for the words that both tables hold after a removal.
+abbrev withRemoved : (List ℕ → Contact → List ℕ) → Engine
+withRemoved f = removesBy removeAnswer (λ T W k. unless (removeRefusal T W k) (f T k) T) (λ T W k. unless (removeRefusal T W k) (f T k) W)
+
+-- Another rule for the cells after a removal, from those before it and those of the remaining contacts.
+abbrev withCellsRemoved : (ℕ → Cells → Cells → Contact → Cells) → Engine
+withCellsRemoved f = withRemoved (λ T k. tableWords (animals T) (ticks T) (carry T) (f (carry T) (cellsOf T) (cellsOver (carry T) (remaining T k)) k))
+
+-- The intervals of a cell that pass the test.
+unfoldable pub those : (Interval → Bool) → Cell → Cell
+those p [] = []
+those p (i ∷ c) = cond (p i) (i ∷ those p c) (those p c)
+
+-- A removal that leaves the table.
+abbrev pub removesNothing : Engine
+removesNothing = withRemoved (λ T k. T)
+
+-- One that takes only the contact's own interval out.
+abbrev pub removesOwnInterval : Engine
+removesOwnInterval =
+    withCellsRemoved (λ δ T U k x y. cond (eqb x (k .from) && eqb y (k .to)) (those (λ i. not (sameInterval i (interval (k .tick) (k .tick + δ)))) (T x y)) (T x y))
+
+-- One that also takes the other contacts of the pair out.
+abbrev pub removesOthers : Engine
+removesOthers =
+    withRemoved
+    (λ T k. tableWords (animals T) (ticks T) (carry T)
+    (cellsOver (carry T) (inLogOrder (animals T) (ticks T) (λ c. holds T c && not (eqb (c .from) (k .from) && eqb (c .to) (k .to))))))
+
+-- One that leaves the intervals which only the removed contact made, in every cell but its own.
+abbrev pub leavesJoined : Engine
+leavesJoined = withCellsRemoved (λ δ T U k x y. cond (eqb x (k .from) && eqb y (k .to)) (U x y) (T x y))
+
+-- One that forgets the displaced intervals which come back: it only takes intervals out.
+abbrev pub forgetsDisplaced : Engine
+forgetsDisplaced = withCellsRemoved (λ δ T U k x y. those (λ i. stands i (U x y)) (T x y))
+
+-- One that leaves the second table as it was.
+abbrev pub leavesWork : Engine
+leavesWork = removesBy removeAnswer removeLeaves (λ T W k. W)
+
+-- Refusal of every removal.
+abbrev pub refusesRemovals : Engine
+refusesRemovals = removesBy (λ T W k. DoneRefused NotHeld) (λ T W k. T) (λ T W k. W)
+
+-- The checks but that of the contact, and but that of the second table's length.
+abbrev unheldRefusal : List ℕ → List ℕ → Contact → Option Refusal
+unheldRefusal T W k = ensureTable T (ensureSameLength T W (ensurePair T (k .from) (k .to) (ensureTick T (k .tick) none)))
+
+abbrev longRefusal : List ℕ → List ℕ → Contact → Option Refusal
+longRefusal T W k = ensureTable T (ensurePair T (k .from) (k .to) (ensureTick T (k .tick) (ensureHeld T k none)))
+
+-- One that is done with a contact that is not held.
+abbrev pub removesUnheld : Engine
+removesUnheld =
+    removesBy (λ T W k. doneAnswerOf (unheldRefusal T W k) Done) (λ T W k. unless (unheldRefusal T W k) (tableWithout T k) T)
+    (λ T W k. unless (unheldRefusal T W k) (tableWithout T k) W)
+
+-- One that takes a second table of any length.
+abbrev pub removesAnyLength : Engine
+removesAnyLength =
+    removesBy (λ T W k. doneAnswerOf (longRefusal T W k) Done) (λ T W k. unless (longRefusal T W k) (tableWithout T k) T)
+    (λ T W k. unless (longRefusal T W k) (tableWithout T k) W)
+
 -- None of them meets demand 3.
 pub record Rejected : Type 0 where
   pub leaves-table : ¬ Demand3 leavesTable
@@ -150,6 +239,15 @@ pub record Rejected : Type 0 where
   pub refuses-openings : ¬ Demand3 refusesOpenings
   pub unsorted-log : ¬ Demand3 unsortedLog
   pub repeats-in-log : ¬ Demand3 repeatsInLog
+  pub removes-nothing : ¬ Demand3 removesNothing
+  pub removes-own-interval : ¬ Demand3 removesOwnInterval
+  pub removes-others : ¬ Demand3 removesOthers
+  pub leaves-joined : ¬ Demand3 leavesJoined
+  pub forgets-displaced : ¬ Demand3 forgetsDisplaced
+  pub leaves-work : ¬ Demand3 leavesWork
+  pub refuses-removals : ¬ Demand3 refusesRemovals
+  pub removes-unheld : ¬ Demand3 removesUnheld
+  pub removes-any-length : ¬ Demand3 removesAnyLength
 
 -- Those whose tables do not hold the minimal intervals do not meet demand 2, whatever their questions answer.
 pub record RejectedTables : Type 1 where
@@ -159,3 +257,8 @@ pub record RejectedTables : Type 1 where
   pub joins-later : (Q : Questions) → ¬ Demand2 joinsLater Q
   pub first-pair-only : (Q : Questions) → ¬ Demand2 firstPairOnly Q
   pub keeps-displaced : (Q : Questions) → ¬ Demand2 keepsDisplaced Q
+  pub removes-nothing : (Q : Questions) → ¬ Demand2 removesNothing Q
+  pub removes-own-interval : (Q : Questions) → ¬ Demand2 removesOwnInterval Q
+  pub removes-others : (Q : Questions) → ¬ Demand2 removesOthers Q
+  pub leaves-joined : (Q : Questions) → ¬ Demand2 leavesJoined Q
+  pub forgets-displaced : (Q : Questions) → ¬ Demand2 forgetsDisplaced Q

@@ -17,7 +17,7 @@ use Rattle.rules.specs.Questions.{reaches, reachRefusal, momentRefusal}
 use Rattle.rules.specs.Chains.{Lead, Lowest, nobody, animal, orElse, leads, follow, chainFrom, ofKept, chainOf, chainRefusal, chainAnswerOf, chainWords}
 use Rattle.rules.specs.declared.OpenAnswer.the-variants.{Opened}
 use Rattle.rules.specs.Opening.{openAnswer}
-use Rattle.rules.specs.CallLists.{Engine, engine, tableAfter, LegalOf}
+use Rattle.rules.specs.CallLists.{Engine, tableWith, LegalOf}
 use Rattle.rules.specs.Demand2.{Questions, questions, AnsweredOn, Demand2}
 use Rattle.rules.specs.Wrong.{given}
 
@@ -229,4 +229,4 @@ pub record RejectedAnswers : Type 1 where
   pub chain-arrives-by-last : (E : Engine) → ¬ Demand2 E chainArrivesByLast
   pub highest-animal : (E : Engine) → ¬ Demand2 E highestAnimal
   pub loading-order : ¬ ((n τ δ : ℕ) (words : List ℕ) (loaded : List Contact) → openAnswer n τ δ words ≡ Opened
-      → AnsweredOn (loadingOrder loaded) n τ δ (LegalOf n τ loaded) (tableAfter engine n τ δ words loaded))
+      → AnsweredOn (loadingOrder loaded) n τ δ (LegalOf n τ loaded) (tableWith n τ δ words loaded))

@@ -22,6 +22,8 @@ pub enum Refusal {
     DifferentOpenings,
     IllegalStay,
     FirstAfterLast,
+    DifferentLengths,
+    NotHeld,
 }
 
 // What opening answers.
@@ -127,11 +129,18 @@ pub enum ChainAnswer {
     Refused(Refusal),
 }
 
-// The tally of counted adds: how many were new, known and refused.
+// What a call answers that rewrites a whole table and has nothing else to say.
+pub enum DoneAnswer {
+    Done,
+    Refused(Refusal),
+}
+
+// The tally of counted calls: how many were new, known and refused, and how many removed a contact.
 pub struct Tally {
     pub new: u32,
     pub known: u32,
     pub refused: u32,
+    pub removed: u32,
 }
 
 // The answer in a question record: not asked yet, yes, no, or a refusal's number.

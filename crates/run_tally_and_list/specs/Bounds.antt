@@ -3,7 +3,7 @@ use Prim.Native.Nat.{ℕ, _≤_}
 use Rattle.question_lists.specs.Plans.{mostRecords}
 use Rattle.run_tally_and_list.specs.declared.commands.State.{State}
 
--- The words of the memory: the table of 8 animals and 64 ticks.
+-- The words of each memory: the table of 8 animals and 64 ticks.
 abbrev pub mostTable : ℕ
 mostTable = 4161
 

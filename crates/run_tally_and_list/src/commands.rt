@@ -1,4 +1,4 @@
-// The commands on a table, a tally and a list of question records.
+// The commands on a table, a memory lent for work, a tally and a list of question records.
 ghost use mathlib.Core.Path.{_≡_};
 ghost use lib.ListN.{length};
 ghost use Rattle.run_tally_and_list.specs.Bounds.{mostTable, Within};
@@ -31,7 +31,7 @@ fn unasked(from: u32, to: u32, first: u32, last: u32) -> Question {
 }
 
 impl State {
-    // The words of the memory: the table of 8 animals and 64 ticks.
+    // The words of each memory: the table of 8 animals and 64 ticks.
     pub const MOST_TABLE: usize = 4161;
 
     // No table, a zero tally and an empty list.
@@ -44,6 +44,7 @@ impl State {
                 new: 0,
                 known: 0,
                 refused: 0,
+                removed: 0,
             },
             records: [unasked(0, 0, 0, 0); MOST_RECORDS],
             count: 0,
@@ -63,7 +64,7 @@ pub(crate) fn stop(state: State, text: &[u8]) -> State
     next
 }
 
-// The first `length` words of the memory are the table from now on.
+// The first `length` words of the first memory are the table from now on.
 fn lend(state: State, length: u32) -> State
     requires { ⌜ Within state ⌝ }
     ensures { λ r. ⌜ Within r ⌝ }
@@ -76,7 +77,7 @@ fn lend(state: State, length: u32) -> State
     next
 }
 
-// Word `at` of the memory becomes `word`.
+// Word `at` of a memory becomes `word`.
 fn put_word(memory: &mut [u32], state: State, at: u32, word: u32) -> State
     requires { ⌜ (mostTable ≡ length (now memory)) × Within state ⌝ }
     ensures { λ r. ⌜ Within r ⌝ }
@@ -107,6 +108,19 @@ fn show(table: &[u32], state: State) -> State
     state
 }
 
+// Writes the first `count` words of the second memory.
+fn show_work(work: &[u32], state: State, count: u32) -> State
+    requires { ⌜ (mostTable ≡ length (now work)) × Within state ⌝ }
+    ensures { λ r. ⌜ Within r ⌝ }
+{
+    let shown = count as usize;
+    if shown > State::MOST_TABLE {
+        return stop(state, b"too large\n");
+    }
+    output::print_numbers(&work[..shown]);
+    state
+}
+
 // The state with this tally.
 fn with_tally(state: State, tally: Tally) -> State
     requires { ⌜ Within state ⌝ }
@@ -123,7 +137,7 @@ fn with_tally(state: State, tally: Tally) -> State
 }
 
 // The tally becomes these numbers.
-fn set_tally(state: State, new: u32, known: u32, refused: u32) -> State
+fn set_tally(state: State, new: u32, known: u32, refused: u32, removed: u32) -> State
     requires { ⌜ Within state ⌝ }
     ensures { λ r. ⌜ Within r ⌝ }
 {
@@ -133,6 +147,7 @@ fn set_tally(state: State, new: u32, known: u32, refused: u32) -> State
             new,
             known,
             refused,
+            removed,
         },
     )
 }
@@ -146,6 +161,29 @@ fn add(table: &mut [u32], state: State, u: u32, v: u32, t: u32) -> State
     let answer = counted.answer;
     output::print_counted(replies::of_add(answer), counted.tally);
     with_tally(state, counted.tally)
+}
+
+// Makes the counted removal with the first d words of the second memory lent for work, and writes the reply and the tally
+// afterwards.
+fn remove(table: &mut [u32], work: &mut [u32], state: State, command: Command) -> State
+    requires { ⌜ (mostTable ≡ length (now work)) × Within state ⌝ }
+    ensures { λ r. ⌜ Within r ⌝ }
+{
+    let lent = command.d as usize;
+    if lent > State::MOST_TABLE {
+        return stop(state, b"too large\n");
+    }
+    let removed = counted_removals::removed_by_value(
+        table,
+        &mut work[..lent],
+        state.tally,
+        command.a,
+        command.b,
+        command.c,
+    );
+    let answer = removed.answer;
+    output::print_counted(replies::of_done(answer), removed.tally);
+    with_tally(state, removed.tally)
 }
 
 // The list has one record more, which is not asked yet.
@@ -203,7 +241,7 @@ fn run_on(table: &mut [u32], state: State, command: Command) -> State
     let which = command.which;
     match which {
         3 => open_lent(table, state, command.a, command.b, command.c),
-        4 => set_tally(state, command.a, command.b, command.c),
+        4 => set_tally(state, command.a, command.b, command.c, command.d),
         5 => add(table, state, command.a, command.b, command.c),
         6 => clear(state),
         7 => put_record(state, command.a, command.b, command.c, command.d),
@@ -214,8 +252,8 @@ fn run_on(table: &mut [u32], state: State, command: Command) -> State
 }
 
 // Runs the command.
-pub(crate) fn run(memory: &mut [u32], state: State, command: Command) -> State
-    requires { ⌜ (mostTable ≡ length (now memory)) × Within state ⌝ }
+pub(crate) fn run(memory: &mut [u32], work: &mut [u32], state: State, command: Command) -> State
+    requires { ⌜ (mostTable ≡ length (now memory)) × ((mostTable ≡ length (now work)) × Within state) ⌝ }
     ensures { λ r. ⌜ Within r ⌝ }
 {
     let which = command.which;
@@ -225,6 +263,15 @@ pub(crate) fn run(memory: &mut [u32], state: State, command: Command) -> State
     if which == 2 {
         return put_word(memory, state, command.a, command.b);
     }
+    if which == 11 {
+        return put_word(work, state, command.a, command.b);
+    }
+    if which == 12 {
+        return show_work(work, state, command.a);
+    }
     let length = state.length;
+    if which == 10 {
+        return remove(&mut memory[..length], work, state, command);
+    }
     run_on(&mut memory[..length], state, command)
 }

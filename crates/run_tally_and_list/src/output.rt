@@ -77,7 +77,7 @@ pub(crate) fn print_reply(reply: u64) {
     print_numbers(&[which_of(reply), number_of(reply)]);
 }
 
-// Writes the reply and the tally of a counted add as a line.
+// Writes the reply and the tally of a counted call as a line.
 pub(crate) fn print_counted(reply: u64, tally: Tally) {
     print_numbers(
         &[
@@ -86,6 +86,7 @@ pub(crate) fn print_counted(reply: u64, tally: Tally) {
             tally.new,
             tally.known,
             tally.refused,
+            tally.removed,
         ],
     );
 }

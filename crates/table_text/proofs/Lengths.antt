@@ -18,7 +18,7 @@ use Rattle.words.specs.Layout.{isOf}
 use Rattle.words.specs.Words.{openingLayout}
 use Rattle.rules.specs.Limits.{maxCarry}
 use Rattle.rules.specs.declared.Refusal.{Refusal}
-use Rattle.rules.specs.declared.Refusal.the-variants.{AnimalsBeyondLimit, TicksBeyondLimit, CarryBeyondLimit, WrongLength, NotOpen, NotWellFormed, NoSuchAnimal, SameAnimal, TickOutOfRange, ChainBufferTooShort, NotALog, NotAContact, IllegalContact, WrongEnd, LogBufferTooShort, TallyFull, DifferentOpenings, IllegalStay, FirstAfterLast}
+use Rattle.rules.specs.declared.Refusal.the-variants.{AnimalsBeyondLimit, TicksBeyondLimit, CarryBeyondLimit, WrongLength, NotOpen, NotWellFormed, NoSuchAnimal, SameAnimal, TickOutOfRange, ChainBufferTooShort, NotALog, NotAContact, IllegalContact, WrongEnd, LogBufferTooShort, TallyFull, DifferentOpenings, IllegalStay, FirstAfterLast, DifferentLengths, NotHeld}
 use Rattle.rules.specs.declared.ReadAnswer.the-variants.{Read}
 use Rattle.rules.specs.Answers.{numberOf, unless, readAnswerOf}
 use Rattle.rules.specs.Folds.{flat}
@@ -26,7 +26,7 @@ use Rattle.rules.specs.Layout.{tableLength, animals, ticks, carry, cellsOf}
 use Rattle.rules.specs.Checks.{ValidTable, WellFormedBelow}
 use Rattle.rules.specs.Opening.{openRefusal}
 use Rattle.rules.specs.Logs.{heldContacts}
-use Rattle.rules.specs.CallLists.{engine, tableAfter}
+use Rattle.rules.specs.CallLists.{tableWith}
 use Rattle.rules.specs.Reading.{isLog, loggedContacts, different, readRefusal, readAnswer, readLeaves}
 use Rattle.rules.specs.Sheet.{mostBytes, mostAnimals, mostTicks, mostText, wordsOf, decimal, intervalText, intervalsText, cellText, firstLine, tableText, refusedText, tooLarge, notWholeWords, isBeyond, readText, logText, sheetText}
 use Rattle.rules.proofs.Folds.{and-left, and-right, flat-few}
@@ -157,6 +157,8 @@ number-small TallyFull = omega arith
 number-small DifferentOpenings = omega arith
 number-small IllegalStay = omega arith
 number-small FirstAfterLast = omega arith
+number-small DifferentLengths = omega arith
+number-small NotHeld = omega arith
 
 pub refused-short : (r : Refusal) → length (refusedText (numberOf r)) ≤ 11
 unfolding refusedText
@@ -187,7 +189,7 @@ module _ (L T : List ℕ) (r : readRefusal L T ≡ none) where
       )
 
   -- The text of the table that it leaves.
-  pub read-short : isBeyond L ≡ false → length (tableText (tableAfter engine (animals L) (ticks L) (carry L) T (loggedContacts L))) ≤ mostShown
+  pub read-short : isBeyond L ≡ false → length (tableText (tableWith (animals L) (ticks L) (carry L) T (loggedContacts L))) ≤ mostShown
   read-short e =
       let f = run-fresh (animals L) (ticks L) (carry L) T (loggedContacts L) read-opens in
       let h = within-limits e in
@@ -202,7 +204,7 @@ log-short L e = go (readRefusal L T) refl
     T = replicate {A = ℕ} (tableLength (animals L) (ticks L)) 0
 
     go : (o : Option Refusal) → readRefusal L T ≡ o
-        → length (readText (readAnswerOf o (Read (different (loggedContacts L)))) (unless o (tableAfter engine (animals L) (ticks L) (carry L) T (loggedContacts L)) T)) ≤ mostShown
+        → length (readText (readAnswerOf o (Read (different (loggedContacts L)))) (unless o (tableWith (animals L) (ticks L) (carry L) T (loggedContacts L)) T)) ≤ mostShown
     go none r = read-short L T r e
     go (some r) q = omega (arith, refused-short r)
 

@@ -4,7 +4,8 @@ use crate::testing::check;
 use crate::testing::contents::Contents;
 use crate::testing::model::{self, Contacts, Journeys};
 use crate::testing::words::{self, Interval, Opening, Window, SET_WORDS};
-use crate::{Added, Answer, Chain, Found, Joined, Opened, Reached, Read, StaysAdded, Written};
+use crate::{Added, Answer, Chain, Done, Found, Joined, Opened};
+use crate::{Reached, Read, StaysAdded, Written};
 
 /// Opening over these words.
 pub fn open(table: &[u32], animals: u32, ticks: u32, carry: u32) -> (Opened, Vec<u32>) {
@@ -55,6 +56,12 @@ pub fn join(first: &[u32], second: &[u32]) -> (Joined, Vec<u32>) {
 /// Adding the contacts of stays to a table, both given as words: the answer, and the table's words afterwards.
 pub fn stays(table: &[u32], stays: &[u32]) -> (StaysAdded, Vec<u32>) {
     Known::by_words(table).stays(table, stays)
+}
+
+/// Removing the contact (u, v, t) from the table of these words with others for work: the answer, and the words of both
+/// afterwards.
+pub fn remove(table: &[u32], work: &[u32], u: u32, v: u32, t: u32) -> (Done, [Vec<u32>; 2]) {
+    Known::by_words(table).remove(table, work, u, v, t)
 }
 
 /// The reach question on the table of these words, which stay as they are.
@@ -122,6 +129,30 @@ impl Known {
         match checked {
             Err(number) => (StaysAdded::Refused(number), table.to_vec()),
             Ok((opening, (cells, new))) => (StaysAdded::New(new), words::table(opening, &cells)),
+        }
+    }
+
+    /// Removing the contact (u, v, t) with words lent for work: the answer, and the words of both tables afterwards.
+    pub fn remove(
+        &self,
+        table: &[u32],
+        work: &[u32],
+        u: u32,
+        v: u32,
+        t: u32,
+    ) -> (Done, [Vec<u32>; 2]) {
+        let checked = self.contents().and_then(|contents| {
+            check::same_length(table, work)?;
+            let contact = check::contact(contents.opening(), u, v, t)?;
+            check::held(contents, contact)?;
+            Ok((contents.opening(), contents.without(contact)))
+        });
+        match checked {
+            Err(number) => (Done::Refused(number), [table, work].map(<[u32]>::to_vec)),
+            Ok((opening, cells)) => {
+                let left = words::table(opening, &cells);
+                (Done::Done, [left.clone(), left])
+            }
         }
     }
 

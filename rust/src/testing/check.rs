@@ -1,5 +1,6 @@
 //! The checks of documents 01 and 02 of open tables, of logs, of stays and of a call's numbers, each with its refusal.
 
+use crate::testing::contents::Contents;
 use crate::testing::rule::Stored;
 use crate::testing::words::{self, Cells, Contact, Interval, Opening, Stay, Window, LAST_PEN};
 
@@ -142,6 +143,24 @@ pub fn same_opening(first: Opening, second: Opening) -> Result<(), u32> {
         Ok(())
     } else {
         Err(17)
+    }
+}
+
+/// A second table as long as the first, or refusal 20.
+pub fn same_length(first: &[u32], second: &[u32]) -> Result<(), u32> {
+    if first.len() == second.len() {
+        Ok(())
+    } else {
+        Err(20)
+    }
+}
+
+/// A contact that the table holds, or refusal 21.
+pub fn held(contents: &dyn Contents, contact: Contact) -> Result<(), u32> {
+    if contents.holds(contact) {
+        Ok(())
+    } else {
+        Err(21)
     }
 }
 

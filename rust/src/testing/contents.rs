@@ -1,5 +1,6 @@
 //! What a table holds, as the calls on it ask for it.
 
+use crate::testing::model::{self, Contacts};
 use crate::testing::words::{self, Cells, Contact, Interval, Opening, Window};
 use crate::Added;
 
@@ -20,6 +21,13 @@ pub trait Contents {
 
     /// The cells after the contacts, each once and in log order, are added singly, and how many of them were new.
     fn add_all(&self, contacts: &[Contact]) -> (Cells, u32);
+
+    /// The cells of the fresh table over the contacts that the table holds, less this one: by the plain search.
+    fn without(&self, contact: Contact) -> Cells {
+        let held = self.held().into_iter();
+        let left: Contacts = held.filter(|&other| other != contact).collect();
+        model::minimal_intervals(self.opening(), &left)
+    }
 
     /// Whether a journey from `u` to `v` fits the window.
     fn reaches(&self, u: u32, v: u32, window: Window) -> bool;

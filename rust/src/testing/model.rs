@@ -15,8 +15,16 @@ pub type Contacts = BTreeSet<Contact>;
 
 /// The minimal journey intervals of every ordered pair of different animals, by departure.
 pub fn minimal_intervals(opening: Opening, contacts: &Contacts) -> Cells {
-    let earliest = |times: &[bool]| times.iter().position(|&seen| seen).into_iter().collect();
-    let cells = intervals(opening, contacts.iter(), earliest);
+    let listed: Vec<Contact> = contacts.iter().copied().collect();
+    let leaving: BTreeSet<(u32, u32)> = listed.iter().map(|c| (c.from, c.tick)).collect();
+    let mut cells = vec![Vec::new(); opening.pairs()];
+    for (x, departure) in leaving {
+        let arrivals = earliest_arrivals(opening, &listed, x, departure);
+        for (y, arrival) in (0..).zip(arrivals).filter(|&(y, _)| y != x) {
+            let cell: &mut Vec<Interval> = &mut cells[opening.pair(x, y)];
+            cell.extend(arrival.map(|arrival| Interval::new(departure, arrival)));
+        }
+    }
     cells.iter().map(|journeys| minimal(journeys)).collect()
 }
 
@@ -82,7 +90,7 @@ impl Journeys {
 
     /// The intervals of all journeys from `u` to another animal `v`, whether another one lies inside them or not.
     fn between(&self, u: u32, v: u32) -> &[Interval] {
-        let find = || intervals(self.opening, self.contacts.iter(), every);
+        let find = || intervals(self.opening, self.contacts.iter());
         &self.all.get_or_init(find)[self.opening.pair(u, v)]
     }
 
@@ -90,7 +98,7 @@ impl Journeys {
     /// They are searched once for each window.
     fn inside(&self, window: Window) -> Rc<Cells> {
         let lying = self.contacts.iter().filter(|&&contact| window.has(contact));
-        let find = || Rc::new(intervals(self.opening, lying, every));
+        let find = || Rc::new(intervals(self.opening, lying));
         Rc::clone(self.inside.borrow_mut().entry(window).or_insert_with(find))
     }
 }
@@ -179,18 +187,8 @@ fn latest_to_arrive(journeys: &[Interval], first: u32, arrival: u32) -> Option<u
     departures.max()
 }
 
-/// Every time at which an animal is reached.
-fn every(times: &[bool]) -> Vec<usize> {
-    (0..times.len()).filter(|&time| times[time]).collect()
-}
-
-/// Intervals of the journeys of every ordered pair of different animals, by departure. At which times an animal is reached
-/// with one departure, `arrivals` is told, and it says which of these times are taken.
-fn intervals<'a>(
-    opening: Opening,
-    contacts: impl Iterator<Item = &'a Contact>,
-    arrivals: impl Fn(&[bool]) -> Vec<usize>,
-) -> Cells {
+/// The intervals of all journeys of every ordered pair of different animals, by departure.
+fn intervals<'a>(opening: Opening, contacts: impl Iterator<Item = &'a Contact>) -> Cells {
     let mut leaving = vec![Vec::new(); opening.animals as usize];
     for &contact in contacts {
         leaving[contact.from as usize].push(contact);
@@ -203,12 +201,33 @@ fn intervals<'a>(
             let seen = search(opening, &leaving, x, departure);
             for (y, reached) in (0..).zip(seen.chunks(times)).filter(|&(y, _)| y != x) {
                 let cell: &mut Vec<Interval> = &mut cells[opening.pair(x, y)];
-                let taken = arrivals(reached).into_iter();
-                cell.extend(taken.map(|arrival| Interval::new(departure, arrival as u32)));
+                let times = (0..).zip(reached).filter(|(_, &seen)| seen);
+                cell.extend(times.map(|(arrival, _)| Interval::new(departure, arrival)));
             }
         }
     }
     cells
+}
+
+/// The earliest arrival at each animal, if any, of the journeys that leave `x` at the departure. The contacts are in log
+/// order, so that those by which an animal is reached stand before those by which it is left.
+fn earliest_arrivals(
+    opening: Opening,
+    contacts: &[Contact],
+    x: u32,
+    departure: u32,
+) -> Vec<Option<u32>> {
+    let mut arrivals: Vec<Option<u32>> = vec![None; opening.animals as usize];
+    let from = contacts.partition_point(|contact| contact.tick < departure);
+    for contact in &contacts[from..] {
+        let begins = contact.from == x && contact.tick == departure;
+        let goes_on = arrivals[contact.from as usize].is_some_and(|met| met <= contact.tick);
+        if begins || goes_on {
+            let met = &mut arrivals[contact.to as usize];
+            *met = Some(met.unwrap_or(u32::MAX).min(contact.tick + opening.carry));
+        }
+    }
+    arrivals
 }
 
 /// Whether a journey that leaves `x` at the departure reaches each animal at each time from 0 to τ+δ.

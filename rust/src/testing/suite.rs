@@ -119,6 +119,7 @@ impl Suite {
                 for t in 0..=opening.ticks + 1 {
                     if asks(random, check::contact(opening, u, v, t).is_ok()) {
                         self.compare(lent, &Call::Add(u, v, t));
+                        self.compare(lent, &Call::Remove(u, v, t, lent.work(random)));
                     }
                 }
                 for tick in 0..=beyond {
@@ -144,7 +145,12 @@ impl Suite {
         for &(first, last) in &windows {
             self.compare(lent, &Call::Connected(first, last));
         }
-        let with_many = [Export::WriteLog, Export::Join, Export::Stays];
+        let with_many = [
+            Export::WriteLog,
+            Export::Join,
+            Export::Stays,
+            Export::Remove,
+        ];
         self.compare_drawn(random, lent, &with_many, 4);
     }
 

@@ -1,9 +1,11 @@
 //! Random contacts, questions, tallies and damage, legal or not.
 
-use crate::session::{Question, Session, MOST_TABLE};
+use crate::session::{Question, Session, Tally, MOST_TABLE};
 use herd::testing::cases;
+use herd::testing::check;
+use herd::testing::contents::Contents;
 use herd::testing::random::Random;
-use herd::testing::words::Opening;
+use herd::testing::words::{Contact, Opening};
 
 /// An opening whose table fits in the program's memory; now and then the largest.
 pub fn opening(random: &mut Random) -> Opening {
@@ -54,19 +56,34 @@ fn animal(random: &mut Random, opening: Opening) -> u32 {
 }
 
 /// A tally whose numbers sum to this.
-pub fn tally(random: &mut Random, sum: u64) -> [u32; 3] {
+pub fn tally(random: &mut Random, sum: u64) -> Tally {
     let most = u64::from(u32::MAX);
     let mut left = sum;
-    let mut tally = [0; 3];
+    let mut tally = [0; 4];
     for (place, number) in tally.iter_mut().enumerate() {
-        let others = most * (2 - place as u64);
+        let others = most * (3 - place as u64);
         let (low, high) = (left.saturating_sub(others), left.min(most));
         let any = low + random.bits() % (high - low + 1);
         let drawn = random.one_of(&[low, high, any]);
         *number = drawn as u32;
         left -= drawn;
     }
+    random.shuffle(&mut tally);
     tally
+}
+
+/// The contacts that the table holds; none where it is refused.
+pub fn held(session: &Session) -> Vec<Contact> {
+    let stored = check::open_table(session.table());
+    stored.map_or(Vec::new(), |stored| stored.held())
+}
+
+/// So many words for work: mostly as many as the table has.
+pub fn work_words(random: &mut Random, session: &Session) -> usize {
+    let right = session.table().len();
+    let other = random.one_of(&[0, 1, right.saturating_sub(1), right + 1, MOST_TABLE]);
+    let words = random.one_of(&[right, right, right, right, right, other]);
+    words.min(MOST_TABLE)
 }
 
 /// Changes one or two words of the table, or its length.

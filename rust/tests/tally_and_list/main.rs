@@ -14,7 +14,7 @@ use met::Kind::{Answer, Refusal};
 use met::Met;
 use session::{
     same_text, Question, Session, ADD, ASK, CLEAR, COMMAND_BYTES, FULL_TALLY, MOST_COMMANDS,
-    MOST_RECORDS, MOST_TABLE, OPEN, RECORD, TABLE, WORD,
+    MOST_RECORDS, MOST_TABLE, OPEN, RECORD, REMOVE, SHOW_WORK, TABLE, WORD, WORK,
 };
 use std::time::Duration;
 
@@ -53,13 +53,34 @@ fn session_of_document_01() {
     session.ask();
     session.put(112, 1);
     session.ask();
+    session.remove((4, 4, 0), 112);
+    session.put(112, 0);
+    session.remove((0, 1, 3), 112);
+    for contact in [
+        (0, 1, 3),
+        (0, 1, 2),
+        (0, 1, 2),
+        (0, 4, 2),
+        (1, 1, 2),
+        (0, 1, 7),
+    ] {
+        session.remove(contact, 113);
+    }
+    session.remove((0, 1, 1), 113);
+    session.remove((1, 3, 4), 113);
+    session.run(WORK, [4, 5, 0, 0]);
+    session.show_work(10);
     let text = "\
         1 0\n\
-        1 1 1 0 0\n1 1 2 0 0\n1 2 3 0 0\n2 0 3 1 0\n\
-        0 7 3 1 1\n0 8 3 1 2\n0 9 3 1 3\n0 9 3 1 4\n\
+        1 1 1 0 0 0\n1 1 2 0 0 0\n1 2 3 0 0 0\n2 0 3 1 0 0\n\
+        0 7 3 1 1 0\n0 8 3 1 2 0\n0 9 3 1 3 0\n0 9 3 1 4 0\n\
         1 4\n0 3 1 4 1 0\n0 3 2 4 1 0\n0 3 1 3 2 0\n0 3 3 6 2 0\n\
         1 7\n3 0 1 6 2 0\n0 4 1 6 0 7\n1 1 1 6 0 8\n0 3 1 7 0 9\n0 3 4 1 0 19\n0 3 7 1 0 9\n0 3 1 6 1 0\n\
-        0 6\n3 0 1 6 2 0\n0 4 1 6 0 7\n1 1 1 6 0 8\n0 3 1 7 0 9\n0 3 4 1 0 19\n0 3 7 1 0 9\n0 3 1 6 1 0\n";
+        0 6\n3 0 1 6 2 0\n0 4 1 6 0 7\n1 1 1 6 0 8\n0 3 1 7 0 9\n0 3 4 1 0 19\n0 3 7 1 0 9\n0 3 1 6 1 0\n\
+        0 6 3 1 5 0\n0 20 3 1 6 0\n\
+        0 21 3 1 7 0\n1 0 3 1 7 1\n0 21 3 1 8 1\n0 7 3 1 9 1\n0 8 3 1 10 1\n0 9 3 1 11 1\n\
+        1 0 3 1 11 2\n1 0 3 1 11 3\n\
+        2148270085 3221225472 0 0 5 0 0 0 3221225472 0\n";
     same_text(session.text(), text, "the model");
     session.compare("the program", &mut Met::default());
     for size in [1, 3, 4, 7, 19, 20, 21, 50] {
@@ -226,6 +247,7 @@ fn long_runs_of_counted_adds() {
             assert_eq!(session.tally()[0] as usize, accepted.len(), "{opening:?}");
             assert_eq!(session.tally().iter().sum::<u32>(), calls, "{opening:?}");
         }
+        assert_eq!(session.tally()[3], 0, "{opening:?}");
         let fresh = model::fresh_table(opening, &accepted);
         assert_eq!(session.table(), fresh, "{opening:?}");
         session.show();
@@ -234,6 +256,58 @@ fn long_runs_of_counted_adds() {
     met.at_least(ADD, &[(Answer(1), 2_000), (Answer(2), 10_000)]);
     met.at_least(ADD, &[(Refusal(7), 1_000), (Refusal(8), 1_000)]);
     met.at_least(ADD, &[(Refusal(9), 1_000)]);
+}
+
+#[test]
+fn long_runs_of_counted_adds_and_removals() {
+    let mut random = Random::new(1112);
+    let mut met = Met::default();
+    for round in 0..30 {
+        let mut opening = cases::opening_with_pairs(&mut random);
+        if round == 0 {
+            opening = Opening::new(8, 64, 3);
+        }
+        let mut session = Session::new();
+        session.open(opening);
+        let more = MOST_TABLE.min(opening.table_words() + 1);
+        session.put_work(&random.words(more));
+        let mut held = Contacts::new();
+        for calls in 1..=600 {
+            let (u, v, t) = contact_or_again(&mut random, opening, &held);
+            let [new, _, _, removed] = session.tally();
+            if random.once_in(2) {
+                session.add((u, v, t));
+            } else {
+                let words = drawn::work_words(&mut random, &session);
+                session.remove((u, v, t), words);
+            }
+            if session.tally()[0] > new {
+                assert!(held.insert(Contact::new(u, v, t)), "{opening:?}");
+            }
+            if session.tally()[3] > removed {
+                assert!(held.remove(&Contact::new(u, v, t)), "{opening:?}");
+            }
+            let [new, known, refused, removed] = session.tally();
+            let listed = drawn::held(&session);
+            assert_eq!((new - removed) as usize, listed.len(), "{opening:?}");
+            assert_eq!(new + known + refused + removed, calls, "{opening:?}");
+            if random.once_in(20) {
+                session.put_list(&drawn::questions(&mut random, opening, 4));
+                session.ask();
+                session.show();
+                session.show_work(more);
+            }
+        }
+        let fresh = model::fresh_table(opening, &held);
+        assert_eq!(session.table(), fresh, "{opening:?}");
+        session.show();
+        session.show_work(more);
+        session.compare(opening, &mut met);
+    }
+    met.at_least(ADD, &[(Answer(1), 1_500), (Answer(2), 1_500)]);
+    met.at_least(REMOVE, &[(Answer(1), 1_500), (Refusal(20), 500)]);
+    met.at_least(REMOVE, &[(Refusal(7), 500), (Refusal(8), 500)]);
+    met.at_least(REMOVE, &[(Refusal(9), 200), (Refusal(21), 500)]);
 }
 
 /// One of the contacts held, or any numbers.
@@ -269,6 +343,81 @@ fn adds_on_damaged_tables() {
 }
 
 #[test]
+fn removals_on_tables_set_up_word_by_word() {
+    let mut random = Random::new(1113);
+    let mut met = Met::default();
+    for _ in 0..150 {
+        let opening = cases::opening_with_pairs(&mut random);
+        let table = any_table(&mut random, opening);
+        let mut session = Session::new();
+        for _ in 0..6 {
+            session.put_table(&table);
+            let held = drawn::held(&session);
+            let second = match random.below(4) {
+                0 => vec![0; table.len()],
+                1 => table.clone(),
+                2 => any_table(&mut random, opening),
+                _ => random.words(table.len()),
+            };
+            session.put_work(&second);
+            let damaged = random.once_in(2);
+            if damaged {
+                drawn::damage(&mut random, &mut session);
+            }
+            for _ in 0..2 {
+                let mut contact = drawn::contact(&mut random, opening);
+                if !held.is_empty() && !random.once_in(4) {
+                    let Contact { from, to, tick } = random.one_of(&held);
+                    contact = (from, to, tick);
+                }
+                let words = drawn::work_words(&mut random, &session);
+                session.remove(contact, words);
+                session.show();
+                session.show_work(table.len());
+            }
+        }
+        session.compare(opening, &mut met);
+    }
+    met.at_least(REMOVE, &[(Answer(1), 200), (Refusal(5), 200)]);
+    met.at_least(REMOVE, &[(Refusal(6), 200), (Refusal(20), 100)]);
+    met.at_least(REMOVE, &[(Refusal(7), 20), (Refusal(8), 20)]);
+    met.at_least(REMOVE, &[(Refusal(9), 10), (Refusal(21), 100)]);
+}
+
+#[test]
+fn the_second_memory_beside_the_words_lent_for_work() {
+    let mut random = Random::new(1114);
+    let mut met = Met::default();
+    for opening in [Opening::new(2, 3, 1), Opening::new(4, 6, 1)] {
+        let words = opening.table_words();
+        let mut session = Session::new();
+        session.open(opening);
+        let behind = random.words(words + 9);
+        session.put_work(&behind);
+        for contact in [(0, 1, 2), (1, 0, 3)] {
+            session.add(contact);
+            session.remove(contact, words);
+            session.show_work(words + 9);
+            assert_eq!(session.second()[..words], *session.table());
+            assert_eq!(session.second()[words..words + 9], behind[words..]);
+            session.remove(contact, words);
+            session.remove(contact, words + 9);
+            session.remove(contact, 0);
+            session.show_work(words + 9);
+        }
+        for words in [0, 1, MOST_TABLE - 1, MOST_TABLE] {
+            session.show_work(words);
+            session.remove((0, 1, 2), words);
+        }
+        session.compare(opening, &mut met);
+    }
+    met.at_least(
+        REMOVE,
+        &[(Answer(1), 4), (Refusal(20), 16), (Refusal(21), 4)],
+    );
+}
+
+#[test]
 fn tallies_at_and_near_the_full_one() {
     let mut random = Random::new(1107);
     let mut met = Met::default();
@@ -277,17 +426,23 @@ fn tallies_at_and_near_the_full_one() {
         let mut session = session_with_contacts(&mut random, opening);
         for distance in 0..=8 {
             let near = FULL_TALLY + 4 - distance;
-            let far = random.one_of(&[0, 1, 2 * FULL_TALLY, 3 * FULL_TALLY]);
+            let far = random.one_of(&[0, 1, 2 * FULL_TALLY, 3 * FULL_TALLY, 4 * FULL_TALLY]);
             for sum in [near, far] {
                 session.put_tally(drawn::tally(&mut random, sum));
                 for _ in 0..3 {
-                    session.add(drawn::contact(&mut random, opening));
+                    let contact = drawn::contact(&mut random, opening);
+                    session.add(contact);
+                    let words = drawn::work_words(&mut random, &session);
+                    session.remove(contact, words);
                 }
             }
         }
         session.show();
+        session.show_work(opening.table_words());
         session.compare(opening, &mut met);
     }
+    met.at_least(REMOVE, &[(Answer(1), 200), (Refusal(20), 50)]);
+    met.at_least(REMOVE, &[(Refusal(7), 50), (Refusal(16), 1_000)]);
     met.at_least(ADD, &[(Answer(1), 200), (Answer(2), 200)]);
     met.at_least(ADD, &[(Refusal(7), 100), (Refusal(8), 100)]);
     met.at_least(ADD, &[(Refusal(9), 50), (Refusal(16), 1_000)]);
@@ -298,21 +453,55 @@ fn tallies_with_one_number_at_its_end() {
     let mut met = Met::default();
     let mut session = Session::new();
     session.open(Opening::new(3, 4, 1));
+    let words = session.table().len();
     let contacts = [(0, 1, 1), (0, 1, 1), (1, 2, 4), (0, 3, 1), (1, 1, 1)];
-    for place in 0..3 {
+    for place in 0..4 {
         for high in [u32::MAX - 2, u32::MAX - 1, u32::MAX] {
             for other in [0, 1, u32::MAX] {
-                let mut tally = [other; 3];
+                let mut tally = [other; 4];
                 tally[place] = high;
                 session.put_tally(tally);
                 for contact in contacts {
                     session.add(contact);
                 }
+                session.put_tally(tally);
+                for contact in contacts {
+                    session.remove(contact, words);
+                }
             }
         }
     }
     session.compare("a number at its end", &mut met);
-    met.at_least(ADD, &[(Answer(1), 1), (Answer(2), 8), (Refusal(16), 100)]);
+    met.at_least(ADD, &[(Answer(1), 8), (Answer(2), 4), (Refusal(16), 100)]);
+    met.at_least(REMOVE, &[(Answer(1), 8), (Refusal(21), 4)]);
+    met.at_least(REMOVE, &[(Refusal(16), 100)]);
+}
+
+#[test]
+fn each_number_of_the_tally_is_summed() {
+    let mut met = Met::default();
+    let mut session = Session::new();
+    session.open(Opening::new(2, 3, 1));
+    let words = session.table().len();
+    let parts = [0, 1, 1 << 30, 1 << 31, u32::MAX - 1];
+    for place in 0..4 {
+        for part in parts {
+            for other in (0..4).filter(|&other| other != place) {
+                for short in 0..=2 {
+                    let mut tally = [0; 4];
+                    tally[place] = part;
+                    tally[other] = u32::MAX - part - short.min(u32::MAX - part);
+                    session.put_tally(tally);
+                    session.add((0, 1, 2));
+                    session.remove((0, 1, 2), words);
+                    session.show();
+                }
+            }
+        }
+    }
+    session.compare("one number and another", &mut met);
+    met.at_least(ADD, &[(Answer(1), 40), (Refusal(16), 40)]);
+    met.at_least(REMOVE, &[(Answer(1), 40), (Refusal(16), 80)]);
 }
 
 #[test]
@@ -330,15 +519,22 @@ fn full_tally_is_refused_first() {
     session.compare("refused tables", &mut met);
     met.at_least(ADD, &[(Refusal(5), 3), (Refusal(6), 1), (Refusal(7), 1)]);
     met.at_least(ADD, &[(Refusal(16), 10)]);
+    met.at_least(REMOVE, &[(Refusal(5), 3), (Refusal(6), 1)]);
+    met.at_least(REMOVE, &[(Refusal(20), 1), (Refusal(16), 10)]);
 }
 
-/// Adds a contact that is not legal over a full tally, then over one that it fills.
+/// Adds and removes a contact that is not legal over a full tally, then over one that it fills.
 fn add_over_full(session: &mut Session) {
-    session.put_tally([1, u32::MAX - 1, 0]);
+    let others = session.table().len() + 1;
+    session.put_tally([1, u32::MAX - 2, 0, 1]);
     session.add((4, 4, 0));
-    session.put_tally([0, 1, u32::MAX - 2]);
+    session.remove((4, 4, 0), others);
+    session.put_tally([0, 1, u32::MAX - 2, 0]);
     session.add((4, 4, 0));
     session.add((4, 4, 0));
+    session.put_tally([0, 0, u32::MAX - 2, 1]);
+    session.remove((4, 4, 0), others);
+    session.remove((4, 4, 0), others);
 }
 
 #[test]
@@ -357,6 +553,8 @@ fn any_commands_in_any_order() {
     met.at_least(OPEN, &[(Answer(1), 500), (Refusal(1), 100)]);
     met.at_least(ASK, &[(Answer(1), 1_000), (Refusal(5), 500)]);
     met.at_least(ASK, &[(Refusal(6), 100)]);
+    met.at_least(REMOVE, &[(Answer(1), 200), (Refusal(5), 100)]);
+    met.at_least(REMOVE, &[(Refusal(16), 50), (Refusal(20), 100)]);
 }
 
 /// A command that the program has, with numbers that it can often do something with.
@@ -364,16 +562,24 @@ fn any_command(random: &mut Random, session: &mut Session, opening: Opening) {
     let size = opening.table_words();
     let any = random.word();
     let numbers = [0; 4].map(|_| random.one_of(&[0, 1, 2, any]));
-    match random.below(24) {
+    match random.below(32) {
         0 => session.open(opening),
         1 => session.lend(random.one_of(&[0, 1, size - 1, size, size, size, size + 1])),
         2 => session.put(random.below(size + 1), numbers[0]),
         3 => session.run(OPEN, numbers),
-        4 => session.put_tally([numbers[0], numbers[1], numbers[2]]),
+        4 => session.put_tally(numbers),
         5 => session.run(CLEAR, numbers),
         6 => session.show(),
         7..=9 => session.ask(),
         10..=14 => session.add(drawn::contact(random, opening)),
+        15..=20 => {
+            let held = drawn::held(session).into_iter().collect();
+            let contact = contact_or_again(random, opening, &held);
+            let words = drawn::work_words(random, session);
+            session.remove(contact, words);
+        }
+        21 => session.run(WORK, [random.below(size + 1) as u32, numbers[0], 0, 0]),
+        22 => session.show_work(random.below(size + 1)),
         _ => session.record(drawn::question(random, opening)),
     }
 }
@@ -385,7 +591,7 @@ fn random_words() {
         let mut session = Session::new();
         while !session.ended() {
             let any = random.word();
-            let which = random.one_of(&[1, 2, 3, 4, 5, 6, 7, 8, 9, 10, 0, any]);
+            let which = random.one_of(&[1, 2, 3, 4, 5, 6, 7, 8, 9, 10, 11, 12, 13, 0, any]);
             let below = random.one_of(&[3, 100, 5_000, u32::MAX]);
             session.run(which, [0; 4].map(|_| random.word() % below));
         }
@@ -403,9 +609,24 @@ fn more_than_the_program_holds() {
     for place in [most, most + 1, 1 << 31, u32::MAX] {
         ends_with("too large", |session| session.run(WORD, [place, 1, 0, 0]));
     }
+    for words in [most + 1, most + 2, 1 << 31, u32::MAX] {
+        for numbers in [[0, 1, 1, words], [0, 0, 0, words]] {
+            ends_with("too large", |session| session.run(REMOVE, numbers));
+        }
+        ends_with("too large", |session| {
+            session.put_tally([u32::MAX; 4]);
+            session.run(REMOVE, [0, 1, 1, words]);
+        });
+        ends_with("too large", |session| {
+            session.run(SHOW_WORK, [words, 0, 0, 0])
+        });
+    }
+    for place in [most, most + 1, 1 << 31, u32::MAX] {
+        ends_with("too large", |session| session.run(WORK, [place, 1, 0, 0]));
+    }
     let list = [(0, 1, 1, 1); MOST_RECORDS + 1];
     ends_with("too large", |session| session.put_list(&list));
-    for which in [0, 10, 11, 1 << 8, 1 << 31, u32::MAX] {
+    for which in [0, 13, 14, 1 << 8, 1 << 31, u32::MAX] {
         ends_with("no such command", |session| session.run(which, [1; 4]));
     }
 }
@@ -431,6 +652,8 @@ fn all_that_the_program_holds() {
         session.lend(length);
         session.show();
     }
+    session.put_work(&random.words(MOST_TABLE));
+    session.show_work(MOST_TABLE);
     let opening = Opening::new(8, 64, 256);
     session.open(opening);
     for contact in cases::legal_contacts(opening) {
@@ -439,8 +662,15 @@ fn all_that_the_program_holds() {
     session.put_list(&drawn::questions(&mut random, opening, MOST_RECORDS));
     session.ask();
     session.show();
+    for contact in [(7, 6, 64), (0, 1, 1), (3, 4, 32)] {
+        session.remove(contact, MOST_TABLE);
+        session.remove(contact, MOST_TABLE - 1);
+    }
+    session.show();
+    session.show_work(MOST_TABLE);
     session.compare(opening, &mut met);
     met.at_least(ADD, &[(Answer(1), 3_584)]);
+    met.at_least(REMOVE, &[(Answer(1), 3), (Refusal(20), 3)]);
 }
 
 #[test]
@@ -454,6 +684,8 @@ fn input_cut_short_at_every_byte() {
     session.put_list(&[(0, 1, 1, 3)]);
     cut_short_behind(&session);
     session.ask();
+    cut_short_behind(&session);
+    session.remove((0, 1, 2), 17);
     cut_short_behind(&session);
 }
 

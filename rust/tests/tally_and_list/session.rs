@@ -5,10 +5,10 @@ use crate::program;
 use herd::testing::calls;
 use herd::testing::check;
 use herd::testing::words::Opening;
-use herd::{Added, Answer, Opened};
+use herd::{Added, Answer, Done, Opened};
 use std::fmt::Debug;
 
-/// The words of the program's memory.
+/// The words of the program's memory, and of its second memory.
 pub const MOST_TABLE: usize = 4161;
 /// The records of its array.
 pub const MOST_RECORDS: usize = 64;
@@ -37,12 +37,21 @@ pub const RECORD: u32 = 7;
 pub const ASK: u32 = 8;
 /// The table is shown.
 pub const SHOW: u32 = 9;
+/// A contact is removed, counted, with the first words of the second memory for work.
+pub const REMOVE: u32 = 10;
+/// A word of the second memory is changed.
+pub const WORK: u32 = 11;
+/// The first words of the second memory are shown.
+pub const SHOW_WORK: u32 = 12;
 
 /// A question's two animals and the first and last tick of its window.
 pub type Question = (u32, u32, u32, u32);
 
 /// Which answer a reply is, and its number; 0 is a refusal.
 pub type Reply = (u32, u32);
+
+/// The numbers of a tally: new, known, refused and removed.
+pub type Tally = [u32; 4];
 
 /// The reply of a record that was not asked.
 const UNASKED: Reply = (3, 0);
@@ -54,7 +63,8 @@ pub struct Session {
     ended: bool,
     memory: Vec<u32>,
     length: usize,
-    tally: [u32; 3],
+    second: Vec<u32>,
+    tally: Tally,
     list: Vec<(Question, Reply)>,
     met: Met,
 }
@@ -68,7 +78,8 @@ impl Session {
             ended: false,
             memory: vec![0; MOST_TABLE],
             length: 0,
-            tally: [0; 3],
+            second: vec![0; MOST_TABLE],
+            tally: [0; 4],
             list: Vec::new(),
             met: Met::default(),
         }
@@ -94,8 +105,13 @@ impl Session {
         &self.memory[..self.length]
     }
 
-    /// The tally: new, known and refused.
-    pub fn tally(&self) -> [u32; 3] {
+    /// The words of the second memory.
+    pub fn second(&self) -> &[u32] {
+        &self.second
+    }
+
+    /// The tally.
+    pub fn tally(&self) -> Tally {
         self.tally
     }
 
@@ -138,13 +154,30 @@ impl Session {
     }
 
     /// The tally becomes these numbers.
-    pub fn put_tally(&mut self, [new, known, refused]: [u32; 3]) {
-        self.run(TALLY, [new, known, refused, 0]);
+    pub fn put_tally(&mut self, tally: Tally) {
+        self.run(TALLY, tally);
     }
 
     /// The contact is added, counted.
     pub fn add(&mut self, (u, v, t): (u32, u32, u32)) {
         self.run(ADD, [u, v, t, 0]);
+    }
+
+    /// The contact is removed, counted, with so many words of the second memory for work.
+    pub fn remove(&mut self, (u, v, t): (u32, u32, u32), words: usize) {
+        self.run(REMOVE, [u, v, t, words as u32]);
+    }
+
+    /// The second memory begins with these words.
+    pub fn put_work(&mut self, words: &[u32]) {
+        for (place, &word) in words.iter().enumerate() {
+            self.run(WORK, [place as u32, word, 0, 0]);
+        }
+    }
+
+    /// So many words of the second memory are shown.
+    pub fn show_work(&mut self, words: usize) {
+        self.run(SHOW_WORK, [words as u32, 0, 0, 0]);
     }
 
     /// The list becomes these records, not asked yet.
@@ -183,11 +216,14 @@ impl Session {
             TABLE if a as usize <= MOST_TABLE => self.length = a as usize,
             WORD if (a as usize) < MOST_TABLE => self.memory[a as usize] = b,
             OPEN => self.obey_open(a, b, c),
-            TALLY => self.tally = [a, b, c],
+            TALLY => self.tally = [a, b, c, d],
             ADD => self.obey_add(a, b, c),
             CLEAR => self.list.clear(),
             RECORD if self.list.len() < MOST_RECORDS => self.list.push(((a, b, c, d), UNASKED)),
-            TABLE | WORD | RECORD => self.end("too large"),
+            REMOVE if d as usize <= MOST_TABLE => self.obey_remove(a, b, c, d as usize),
+            WORK if (a as usize) < MOST_TABLE => self.second[a as usize] = b,
+            SHOW_WORK if a as usize <= MOST_TABLE => self.text += &line(&self.second[..a as usize]),
+            TABLE | WORD | RECORD | REMOVE | WORK | SHOW_WORK => self.end("too large"),
             ASK => self.obey_ask(),
             SHOW => self.text += &line(self.table()),
             _ => self.end("no such command"),
@@ -205,11 +241,16 @@ impl Session {
         self.reply(OPEN, reply, &[]);
     }
 
+    /// Whether the four numbers of the tally sum to the full one or more.
+    fn is_full(&self) -> bool {
+        let counted: u64 = self.tally.into_iter().map(u64::from).sum();
+        counted >= FULL_TALLY
+    }
+
     /// The contact is added and counted, unless the tally is full.
     fn obey_add(&mut self, u: u32, v: u32, t: u32) {
-        let counted: u64 = self.tally.into_iter().map(u64::from).sum();
-        if counted >= FULL_TALLY {
-            return self.counted((0, 16));
+        if self.is_full() {
+            return self.counted(ADD, (0, 16));
         }
         let (answer, after) = calls::add(self.table(), u, v, t);
         self.memory[..self.length].copy_from_slice(&after);
@@ -219,13 +260,30 @@ impl Session {
             Added::Refused(number) => (2, (0, number)),
         };
         self.tally[counter] += 1;
-        self.counted(reply);
+        self.counted(ADD, reply);
     }
 
-    /// The line of a counted add.
-    fn counted(&mut self, reply: Reply) {
+    /// The contact is removed and counted, unless the tally is full.
+    fn obey_remove(&mut self, u: u32, v: u32, t: u32, words: usize) {
+        if self.is_full() {
+            return self.counted(REMOVE, (0, 16));
+        }
+        let work = &self.second[..words];
+        let (answer, [table, work]) = calls::remove(self.table(), work, u, v, t);
+        self.memory[..self.length].copy_from_slice(&table);
+        self.second[..words].copy_from_slice(&work);
+        let (counter, reply) = match answer {
+            Done::Done => (3, (1, 0)),
+            Done::Refused(number) => (2, (0, number)),
+        };
+        self.tally[counter] += 1;
+        self.counted(REMOVE, reply);
+    }
+
+    /// The line of a counted call.
+    fn counted(&mut self, command: u32, reply: Reply) {
         let tally = self.tally;
-        self.reply(ADD, reply, &tally);
+        self.reply(command, reply, &tally);
     }
 
     /// Each record is answered as by a single reach, unless the table is refused.

@@ -1,24 +1,32 @@
 -- `add_counted` meets its contract: a full tally is refused, else the add is answered and counted.
+use mathlib.Core.Path.{_≡_, sym, _∙_}
+use mathlib.Core.Bool.{true}
 use borrow.Author.Needs.{needs}
-use native.Mathlib.Omega.{arith}
-use Rattle.counted_adds.proofs.Counts.{room-passes, full-refused, room-counted}
+use borrow.Author.Tests.{not-true, not-false}
+use Rattle.rules.specs.Counting.{hasRoom}
+use Rattle.counted_adds.proofs.Counts.{full-refused, room-counted}
 use Rattle.counted_adds.proofs.add_counted.Statement.{statement}
 use Rattle.counted_adds.proofs.add_counted.Tie as tie
 
--- Where the tally was summed, from the add.
-abbrev summed : tie.After-add-contact → tie.After-sum-of
-summed c = c .before .before .before
+-- Where the contact was added, from the place where the tally is raised, and where the tally was found to have room.
+abbrev added : tie.After-slice-known2 → tie.After-add-contact
+added c = c .before .before
+
+abbrev passed : tie.After-add-contact → tie.Else1
+passed c = c .before .before
+
+-- The tally has room there.
+room : (c : tie.Else1) → hasRoom (c .before .before .before .args .tally) ≡ true
+room c = sym (c .before .has-room .ensures) ∙ not-false _ (c .if1 .left)
 
 returns : tie.Need-returns
-returns c = full-refused _ _ _ _ (c .before .sum-of .ensures) (omega arith)
-
-raise-requires : tie.Need-raise-requires
-raise-requires c κs = room-passes _ _ (summed (c .before .before) .sum-of .ensures) (omega arith)
+returns c = full-refused _ _ _ (sym (c .before .has-room .ensures) ∙ not-true _ (c .if1 .taken))
 
 returns-2 : tie.Need-returns-2
 returns-2 c =
-    let a = c .before .before .before in
-    room-counted _ _ _ _ (summed a .sum-of .ensures) (omega arith) _ _ _ (c .raise .ensures) (a .add-contact .ensures .0) (a .add-contact .ensures .1)
+    let a = added (c .before) in
+    room-counted _ _ _ (room (passed a)) _ _ _ (c .raise .ensures) (a .add-contact .ensures .0) (a .add-contact .ensures .1)
 
 pub add-counted-spec : {M : Type 1} → statement M
-add-counted-spec = tie.close (tie.spec (λ c κs. search needs) returns (λ c κs. search needs) raise-requires (λ c. search needs) returns-2)
+add-counted-spec =
+    tie.close (tie.spec (λ c κs. search needs) returns (λ c κs. search needs) (λ c κs. room (passed (added c))) (λ c. search needs) returns-2)

@@ -11,6 +11,7 @@ mod growth;
 mod joining;
 mod loading;
 mod page;
+mod removing;
 mod rows;
 mod staying;
 mod ticks;
@@ -21,6 +22,7 @@ use asking::Asking;
 use joining::Joining;
 use loading::Loading;
 use page::Goal;
+use removing::Removing;
 use staying::Staying;
 use workloads::Workload;
 
@@ -46,6 +48,10 @@ const FEW: usize = 200;
 const STAYING: Goal = Goal::AtMost(1.5);
 /// The records of a list of stays.
 const STAYS: usize = 5_000;
+/// What a removal takes beyond so many loads of the contacts left.
+const LOADS: f64 = 1.3;
+/// The same in reads of the table.
+const REMOVING: Goal = Goal::AtMost(6.0);
 
 fn main() {
     println!("A time is the shortest lap of turns that last 50 ms or more together, and all peers take turns.");
@@ -55,6 +61,7 @@ fn main() {
     print_calls(&workloads, tables);
     print_joins(&workloads);
     print_stays();
+    print_removals(&workloads);
     growth::print();
 }
 
@@ -181,4 +188,22 @@ fn print_stays() {
     let (call, read) = apart.call_and_read();
     let (contacts, number) = (apart.contacts(), page::number(call / read));
     println!("{STAYS} stays that share nothing, {contacts} contacts, over one read of the words of the table: {number}");
+}
+
+/// Prints what removing one contact takes beside loading the log of the contacts left.
+fn print_removals(workloads: &[Workload]) {
+    page::head(
+        &format!("Removing one contact: less {LOADS} loads of the log of the contacts left, over one read of the table's words; over that load"),
+        &["in reads", "in loads"],
+    );
+    page::goals(&[REMOVING]);
+    for workload in workloads {
+        let times = Removing::new(workload).run();
+        let beyond = (times.remove - LOADS * times.load) / times.read;
+        let cells = [
+            REMOVING.judged(beyond),
+            page::number(times.remove / times.load),
+        ];
+        page::line(workload.name, &cells);
+    }
 }

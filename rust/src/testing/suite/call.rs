@@ -17,6 +17,8 @@ pub enum Call {
     Join(Vec<u32>),
     /// The words of the stays.
     Stays(Vec<u32>),
+    /// The animal left, the animal met, the tick, and the words for work.
+    Remove(u32, u32, u32, Vec<u32>),
     /// The buffer.
     WriteLog(Vec<u32>),
     /// From, to, first, last.
@@ -66,6 +68,7 @@ impl Call {
             Call::Add(..) => Export::Add,
             Call::Join(..) => Export::Join,
             Call::Stays(..) => Export::Stays,
+            Call::Remove(..) => Export::Remove,
             Call::WriteLog(..) => Export::WriteLog,
             Call::Reach(..) => Export::Reach,
             Call::Earliest(..) => Export::Earliest,
@@ -114,6 +117,11 @@ impl Call {
                 let stays = lend(1, stays).freeze();
                 let answer = crate::stays(&mut table, &stays);
                 Outcome::new(answer, &table, &stays)
+            }
+            Call::Remove(u, v, t, ref work) => {
+                let mut work = lend(1, work);
+                let answer = crate::remove(&mut table, &mut work, u, v, t);
+                Outcome::new(answer, &table, &work)
             }
             Call::WriteLog(ref buffer) => {
                 let (table, mut buffer) = (table.freeze(), lend(1, buffer));
@@ -176,6 +184,10 @@ impl Call {
             Call::Stays(ref stays) => {
                 let (answer, after) = known.stays(table, stays);
                 Outcome::new(answer, &after, stays)
+            }
+            Call::Remove(u, v, t, ref work) => {
+                let (answer, [table, work]) = known.remove(table, work, u, v, t);
+                Outcome::new(answer, &table, &work)
             }
             Call::WriteLog(ref buffer) => {
                 let (answer, after) = known.write_log(buffer);

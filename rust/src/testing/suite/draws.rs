@@ -22,6 +22,7 @@ impl Lent {
             }
             Export::Join => Call::Join(self.second(random)),
             Export::Stays => Call::Stays(stays(random, opening)),
+            Export::Remove => self.draw_remove(random),
             Export::WriteLog => Call::WriteLog(buffer(random, self.held.len() + 2)),
             Export::Reach => Call::Reach(u, v, first, last),
             Export::Earliest => {
@@ -95,6 +96,43 @@ impl Lent {
         } else {
             second
         }
+    }
+
+    /// A removal: mostly of a held contact, or of one next to it, and mostly with as many words for work as the table has.
+    /// Where very many contacts are held, it is mostly of any numbers.
+    fn draw_remove(&self, random: &mut Random) -> Call {
+        let work = self.work(random);
+        let (mut u, mut v) = (animal(random, self.opening), animal(random, self.opening));
+        let mut t = tick(random, self.opening.ticks);
+        let eighths = if self.held.len() < 400 { 6 } else { 1 };
+        if !self.held.is_empty() && random.below(8) < eighths {
+            let held = random.one_of(&self.held);
+            (u, v, t) = (held.from, held.to, held.tick);
+            match random.below(12) {
+                0 => (u, v) = (v, u),
+                1 => t -= 1,
+                2 => t += 1,
+                _ => (),
+            }
+        }
+        Call::Remove(u, v, t, work)
+    }
+
+    /// Words for work, mostly as many as the table has: all alike, of no meaning, or those of a table.
+    pub fn work(&self, random: &mut Random) -> Vec<u32> {
+        let right = self.words.len();
+        let mut work = match random.below(6) {
+            0 => vec![0; right],
+            1 => vec![u32::MAX; right],
+            2 => self.words.clone(),
+            3 => self.second(random),
+            _ => random.words(right),
+        };
+        let more = random.between(1, 40) as usize;
+        let other = random.one_of(&[0, 1, right.saturating_sub(1), right + 1, right + more]);
+        let words = if random.once_in(8) { other } else { right };
+        work.resize(words, random.word());
+        work
     }
 
     /// A claimed chain: a journey of held contacts, or one that was damaged.

@@ -1,6 +1,6 @@
 //! What any of the calls answers, and which answers each of them has.
 
-use crate::{Added, Answer, Chain, Found, Interval, Joined, Opened};
+use crate::{Added, Answer, Chain, Done, Found, Interval, Joined, Opened};
 use crate::{Reached, Read, StaysAdded, Written};
 
 /// The engine's calls.
@@ -11,6 +11,7 @@ pub enum Export {
     Add,
     Join,
     Stays,
+    Remove,
     WriteLog,
     Reach,
     Earliest,
@@ -38,6 +39,8 @@ pub enum Reply {
     Joined(u32),
     /// So many contacts new to the table.
     StaysAdded(u32),
+    /// It is done.
+    Done,
     /// So many words.
     Written(u32),
     /// It is so.
@@ -58,12 +61,13 @@ pub enum Reply {
 
 impl Export {
     /// Every call.
-    pub const ALL: [Export; 13] = [
+    pub const ALL: [Export; 14] = [
         Export::Open,
         Export::ReadLog,
         Export::Add,
         Export::Join,
         Export::Stays,
+        Export::Remove,
         Export::WriteLog,
         Export::Reach,
         Export::Earliest,
@@ -75,10 +79,11 @@ impl Export {
     ];
 
     /// The calls on an open table.
-    pub const ON_OPEN_TABLES: [Export; 11] = [
+    pub const ON_OPEN_TABLES: [Export; 12] = [
         Export::Add,
         Export::Join,
         Export::Stays,
+        Export::Remove,
         Export::WriteLog,
         Export::Reach,
         Export::Earliest,
@@ -97,6 +102,7 @@ impl Export {
             Export::Add => &["new", "known"],
             Export::Join => &["joined"],
             Export::Stays => &["stays added"],
+            Export::Remove => &["done"],
             Export::WriteLog => &["written"],
             Export::Reach | Export::Connected | Export::Claimed => &["yes", "no"],
             Export::Earliest | Export::Latest => &["at", "nothing"],
@@ -112,6 +118,7 @@ impl Export {
             Export::ReadLog => &[11, 4, 12, 13, 14],
             Export::Join => &[5, 6, 17],
             Export::Stays => &[5, 6, 18],
+            Export::Remove => &[5, 6, 20, 7, 8, 9, 21],
             Export::WriteLog => &[5, 6, 15],
             Export::Connected => &[5, 6, 9, 19],
             Export::Reached => &[5, 6, 7, 9, 19],
@@ -133,6 +140,7 @@ impl Reply {
             Reply::Known(_) => "known",
             Reply::Joined(_) => "joined",
             Reply::StaysAdded(_) => "stays added",
+            Reply::Done => "done",
             Reply::Written(_) => "written",
             Reply::Yes => "yes",
             Reply::No => "no",
@@ -187,6 +195,15 @@ impl From<StaysAdded> for Reply {
         match answer {
             StaysAdded::New(contacts) => Reply::StaysAdded(contacts),
             StaysAdded::Refused(number) => Reply::Refused(number),
+        }
+    }
+}
+
+impl From<Done> for Reply {
+    fn from(answer: Done) -> Reply {
+        match answer {
+            Done::Done => Reply::Done,
+            Done::Refused(number) => Reply::Refused(number),
         }
     }
 }

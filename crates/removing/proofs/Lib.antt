@@ -1,0 +1,3 @@
+pub mod MarkedSets
+pub mod CellByCell
+pub mod Removed
