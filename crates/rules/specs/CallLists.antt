@@ -81,8 +81,8 @@ AcceptedOn E T (removal k W) = E .remove-answer T W k ≡ Done
 
 -- On a table of n animals and τ ticks.
 module _ (n τ : ℕ) where
-  -- The call is legal where the calls before it left the contacts S: an add when its contact is legal, a removal when its contact is in S and
-  -- the second table has the first's length.
+  -- The call is legal where the calls before it left the contacts S: an add of a legal contact, or a removal of one of S with a second table as
+  -- long as the first.
   abbrev pub LegalCall : Contacts → Call → Type 0
   LegalCall S (addition k) = Legal n τ k
   LegalCall S (removal k W) = S k × (length W ≡ tableLength n τ)
@@ -91,7 +91,7 @@ module _ (n τ : ℕ) where
   abbrev pub PutIn : Contacts → Contact → Contacts
   PutIn S k c = S c ⊎ ((c ≡ k) × Legal n τ k)
 
-  -- The contact is taken out, where the second table has the first's length.
+  -- The contact is taken out, where the second table is as long as the first.
   abbrev pub TakenOut : Contacts → Contact → List ℕ → Contacts
   TakenOut S k W c = S c × (¬ ((c ≡ k) × (length W ≡ tableLength n τ)))
 

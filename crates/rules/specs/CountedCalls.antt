@@ -88,11 +88,11 @@ pub record CountedRule : Type 1 where
       → Fresh n τ δ (Without S k) (countedRemovalLeaves t T W k)
   -- What the tally means after a list of counted adds.
   pub from-zero : (n τ δ : ℕ) (T : List ℕ) → Fresh n τ δ (λ k. ⊥) T → (A : List Contact) → CountedAdds n τ δ T A
-  -- From a zero tally and a fresh table, with the tally moved only by counted calls on that table and its contacts changed by no others, new minus
-  -- removed is the number of contacts held.
+  -- Begun with zeros on a table without contacts, and where nothing else changes which contacts it holds, new is as many as were removed and are
+  -- still held.
   pub new-less-removed : (n τ δ : ℕ) (T : List ℕ) → Fresh n τ δ (λ k. ⊥) T → (A : List Step) → OthersKeep (zeroTally T) A
       → let s = runCounted (zeroTally T) A in s .tally .new ≡ s .tally .removed + length (heldContacts (s .table))
-  -- From a zero tally, whatever the table, the sum of the four is the number of counted calls not refused with 16.
+  -- Begun with zeros, on any words, the four numbers together count the counted calls, but for those refused with 16.
   pub sum-is : (T : List ℕ) (A : List Step) → tallySum (runCounted (zeroTally T) A .tally) ≡ length (counted (zeroTally T) A)
   -- A repeated uncounted add leaves a fresh table as it was.
   pub repeated : (n τ δ : ℕ) (S : Contacts) (T : List ℕ) → Fresh n τ δ S T → (k : Contact) → S k → addLeaves T k ≡ T

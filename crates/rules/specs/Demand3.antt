@@ -1,5 +1,5 @@
--- Demand 3 of the tender, as one statement about two whole lists of calls, with its own words above its parts. Since document 02, Seven, the calls
--- are uncounted adds and removals, and the contacts of a list are the set that is left at its end.
+-- Demand 3 of the tender, as one statement about two whole lists of calls, with its own words above its parts. By document 02,
+-- Seven, the calls are uncounted adds and removals, and the contacts of a list are those that it leaves at its end.
 use Prim.Native.Nat.{ℕ, _+_, _≤_, _<_}
 use mathlib.Core.Path.{_≡_}
 use mathlib.Core.Logic.{_↔_, _≢_}
@@ -51,10 +51,9 @@ module _ (E : Engine) (n τ δ : ℕ) where
 
   -- What is said of one list of calls, run on its own table.
   pub record OneList (words : List ℕ) (A : List Call) : Type 0 where
-    -- "a call is accepted exactly when it is legal": a removal exactly when its contact is in the set that the calls before it left and the
-    -- second table lent has the first's length
+    -- "a call is accepted exactly when it is legal": whether a removal is, depends on what the calls before it left
     pub accepted : (P : List Call) (c : Call) (Q : List Call) → P ++ (c ∷ Q) ≡ A → AcceptedOn E (tableAfter E n τ δ words P) c ↔ LegalCall n τ (SetLeft n τ P) c
-    -- what the second table holds after a legal removal is the same as the first
+    -- A legal removal leaves the same words in both its tables.
     pub work : (P : List Call) (k : Contact) (W : List ℕ) (Q : List Call) → P ++ (removal k W ∷ Q) ≡ A → LegalCall n τ (SetLeft n τ P) (removal k W)
         → E .remove-work (tableAfter E n τ δ words P) W k ≡ E .remove-leaves (tableAfter E n τ δ words P) W k
     -- "each being the fresh table over its own"
@@ -73,7 +72,7 @@ module _ (E : Engine) (n τ δ : ℕ) where
   pub record TwoLists (wordsA wordsB : List ℕ) (A B : List Call) : Type 0 where
     pub first : OneList wordsA A
     pub second : OneList wordsB B
-    -- "the two tables end equal in every word exactly when the legal contacts of A and of B form the same set": the sets left at their ends
+    -- "the two tables end equal in every word exactly when the legal contacts of A and of B form the same set": those that each list leaves
     pub equal : (tableAfter E n τ δ wordsA A ≡ tableAfter E n τ δ wordsB B) ↔ Same (SetLeft n τ A) (SetLeft n τ B)
 
 -- "Let A and B be any two lists of uncounted contact calls, refused ones included, each list run on a table of its own,

@@ -37,7 +37,7 @@ remaining T k = inLogOrder (animals T) (ticks T) (λ c. holds T c && not (sameCo
 unfoldable pub tableWithout : List ℕ → Contact → List ℕ
 tableWithout T k = tableWords (animals T) (ticks T) (carry T) (cellsOver (carry T) (remaining T k))
 
--- It answers only that it is done.
+-- Done, or the refusal.
 unfoldable pub removeAnswer : List ℕ → List ℕ → Contact → DoneAnswer
 removeAnswer T W k = doneAnswerOf (removeRefusal T W k) Done
 

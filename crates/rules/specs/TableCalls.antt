@@ -45,8 +45,8 @@ module _ (n τ δ : ℕ) where
     pub valid : ValidTable S
     pub opening : getD S 0 0 ≡ openingWord n τ δ
 
-  -- The contacts that the call leaves where P was there before: an add puts a legal contact in, a removal with a second table of the first's
-  -- length takes its contact out, a join puts in the contacts held by a table that can be joined, a list of stays the contacts that two of its
+  -- The contacts that the call leaves where P was there before: an add puts a legal contact in, a removal with a second table as long as the
+  -- first takes its contact out, a join puts in the contacts held by a table that can be joined, a list of stays the contacts that two of its
   -- records tell; a call that is refused leaves P.
   abbrev pub ContactsAfter : Contacts → TableCall → Contacts
   ContactsAfter P (adding k) c = PutIn n τ P k c
