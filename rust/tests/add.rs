@@ -1,13 +1,13 @@
 //! Adding one contact after another, against the plain search.
 
-use herd::testing::calls::accepted;
-use herd::testing::cases;
-use herd::testing::compare::same_words;
-use herd::testing::model::{self, Contacts};
-use herd::testing::random::Random;
-use herd::testing::suite::{draws, Call, Export, Lent, Reply, Suite};
-use herd::testing::words::{self, Contact, Opening};
-use herd::{Added, Opened};
+use herd::calls::{Added, Opened};
+use herd_testing::calls::accepted;
+use herd_testing::cases;
+use herd_testing::compare::same_words;
+use herd_testing::model::{self, Contacts};
+use herd_testing::random::Random;
+use herd_testing::suite::{draws, Call, Export, Lent, Reply, Suite};
+use herd_testing::words::{self, Contact, Opening};
 
 /// A table that grows by adds, and the suite that compares them.
 struct Office {
@@ -99,7 +99,7 @@ fn every_contact_more_on_every_set_of_small_tables() {
             for (i, contact) in legal.iter().enumerate() {
                 let more = bits | 1 << i;
                 let mut table = fresh[bits].clone();
-                let answer = herd::add(&mut table, contact.from, contact.to, contact.tick);
+                let answer = herd::calls::add(&mut table, contact.from, contact.to, contact.tick);
                 let (before, after) = (&fresh[bits][1..], &fresh[more][1..]);
                 let size = opening.cell_words();
                 let pairs = before.chunks(size).zip(after.chunks(size));
@@ -127,10 +127,13 @@ fn two_loading_orders_leave_equal_tables() {
         let mut tables = Vec::new();
         for _ in 0..2 {
             let mut table = random.words(opening.table_words());
-            assert_eq!(herd::open(&mut table, n, ticks, carry), Opened::Opened);
+            assert_eq!(
+                herd::calls::open(&mut table, n, ticks, carry),
+                Opened::Opened
+            );
             for call in &calls {
                 let &(u, v, t) = call;
-                let refused = matches!(herd::add(&mut table, u, v, t), Added::Refused(_));
+                let refused = matches!(herd::calls::add(&mut table, u, v, t), Added::Refused(_));
                 assert_eq!(refused, !is_legal(call), "{opening:?} {call:?}");
                 accepted += u32::from(!refused);
             }
@@ -153,12 +156,15 @@ fn a_row_for_every_tick() {
     for (ticks, carry) in [(1, 1), (2, 3), (1000, 7), (1024, 1), (1024, 256)] {
         let opening = Opening::new(2, ticks, carry);
         let mut table = random.words(opening.table_words());
-        assert_eq!(herd::open(&mut table, 2, ticks, carry), Opened::Opened);
+        assert_eq!(
+            herd::calls::open(&mut table, 2, ticks, carry),
+            Opened::Opened
+        );
         let mut contacts = cases::legal_contacts(opening);
         for expected in [Added::New(1), Added::Known(0)] {
             random.shuffle(&mut contacts);
             for contact in &contacts {
-                let answer = herd::add(&mut table, contact.from, contact.to, contact.tick);
+                let answer = herd::calls::add(&mut table, contact.from, contact.to, contact.tick);
                 assert_eq!(answer, expected, "{opening:?} {contact:?}");
             }
             let full = words::table(opening, &cases::full_cells(opening));

@@ -1,10 +1,10 @@
 //! Every call on good tables, against the plain search where adds built them and against document 01's text where not.
 
-use herd::testing::cases;
-use herd::testing::model::{self, Contacts};
-use herd::testing::random::Random;
-use herd::testing::suite::{draws, Call, Export, Lent, Reply, Suite};
-use herd::testing::words::{self, Cells, Opening, Stay};
+use herd_testing::cases;
+use herd_testing::model::{self, Contacts};
+use herd_testing::random::Random;
+use herd_testing::suite::{draws, Call, Export, Lent, Reply, Suite};
+use herd_testing::words::{self, Cells, Opening, Stay};
 
 /// The refusals on a good table.
 const ON_GOOD_TABLES: [u32; 10] = [7, 8, 9, 10, 15, 17, 18, 19, 20, 21];

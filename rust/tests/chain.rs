@@ -1,12 +1,12 @@
 //! The chain: long ones, buffers of every length, and walks that stick on tables that no adds built.
 
-use herd::testing::calls::Known;
-use herd::testing::cases;
-use herd::testing::contents::Contents;
-use herd::testing::random::Random;
-use herd::testing::rule::Stored;
-use herd::testing::suite::{draws, Call, Export, Lent, Reply, Suite};
-use herd::testing::words::{self, Contact, Interval, Opening, Window};
+use herd_testing::calls::Known;
+use herd_testing::cases;
+use herd_testing::contents::Contents;
+use herd_testing::random::Random;
+use herd_testing::rule::Stored;
+use herd_testing::suite::{draws, Call, Export, Lent, Reply, Suite};
+use herd_testing::words::{self, Contact, Interval, Opening, Window};
 
 /// The chain of a pair in a window, with words of no meaning in a buffer of this length.
 fn chain(random: &mut Random, (u, v): (u32, u32), (first, last): (u32, u32), room: usize) -> Call {

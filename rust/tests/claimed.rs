@@ -1,9 +1,9 @@
 //! The check of a claimed chain: what each word must be, and how they must follow each other.
 
-use herd::testing::cases;
-use herd::testing::random::Random;
-use herd::testing::suite::{draws, Call, Export, Lent, Reply, Suite};
-use herd::testing::words::{self, Contact, Interval, Opening, Window};
+use herd_testing::cases;
+use herd_testing::random::Random;
+use herd_testing::suite::{draws, Call, Export, Lent, Reply, Suite};
+use herd_testing::words::{self, Contact, Interval, Opening, Window};
 use std::collections::{BTreeMap, BTreeSet};
 
 /// A journey of contacts that a table holds, and the window that it just fits.
@@ -265,8 +265,8 @@ fn chains_told_are_claimed_with_yes() {
         let (u, v) = cases::pair(&mut random, lent.opening);
         let (first, last) = (1, lent.opening.ticks);
         let mut buffer = vec![0; lent.opening.animals as usize];
-        let told = herd::chain(&lent.words, u, v, first, last, &mut buffer);
-        if let herd::Chain::Contacts(number) = told {
+        let told = herd::calls::chain(&lent.words, u, v, first, last, &mut buffer);
+        if let herd::calls::Chain::Contacts(number) = told {
             let chain = buffer[..number as usize].to_vec();
             let call = Call::Claimed(u, v, first, last, chain);
             suite.require(&lent, &call, Reply::Yes);

@@ -1,9 +1,9 @@
 //! Every call on tables with wrong words or of a wrong length, against document 01's text.
 
-use herd::testing::cases;
-use herd::testing::random::Random;
-use herd::testing::suite::{draws, Export, Lent, Reply, Suite};
-use herd::testing::words::{self, Cells, Interval, Opening};
+use herd_testing::cases;
+use herd_testing::random::Random;
+use herd_testing::suite::{draws, Export, Lent, Reply, Suite};
+use herd_testing::words::{self, Cells, Interval, Opening};
 use std::collections::BTreeMap;
 
 /// The refusals of calls on an open table.

@@ -1,13 +1,13 @@
 //! The session, the marked examples and the unmarked ones of document 01, with the windows of document 02, in every
 //! loading order.
 
-use herd::testing::cases::{self, orders};
-use herd::testing::compare::same_words;
-use herd::testing::model;
-use herd::testing::random::Random;
-use herd::testing::suite::{Call, Export, Lent, Reply, Suite};
-use herd::testing::words::{self, contacts, Contact, Interval, Opening, Window};
-use herd::{Added, Chain, Done, Joined, Opened, Reached, Read, Written};
+use herd::calls::{Added, Chain, Done, Joined, Opened, Reached, Read, Written};
+use herd_testing::cases::{self, orders};
+use herd_testing::compare::same_words;
+use herd_testing::model;
+use herd_testing::random::Random;
+use herd_testing::suite::{Call, Export, Lent, Reply, Suite};
+use herd_testing::words::{self, contacts, Contact, Interval, Opening, Window};
 
 /// The session's log.
 const LOG: [u32; 5] = [
@@ -42,33 +42,36 @@ fn words_of_the_session() {
     for order in orders(&[LOG[1], LOG[2], LOG[3]]) {
         let mut table = random.words(113);
         let log = [&LOG[..1], &order, &LOG[4..]].concat();
-        assert_eq!(herd::read_log(&log, &mut table), Read::Contacts(3));
+        assert_eq!(herd::calls::read_log(&log, &mut table), Read::Contacts(3));
         same_words(&table, &session_table(), &order);
         let [a, b, c] = [order[0], order[1], order[2]];
         let repeated = [LOG[0], a, b, b, c, a, a, 0xC000_0006];
         table = random.words(113);
-        assert_eq!(herd::read_log(&repeated, &mut table), Read::Contacts(3));
+        assert_eq!(
+            herd::calls::read_log(&repeated, &mut table),
+            Read::Contacts(3)
+        );
         same_words(&table, &session_table(), &order);
     }
     for order in orders(&session()) {
         let mut table = random.words(113);
-        assert_eq!(herd::open(&mut table, 4, 6, 1), Opened::Opened);
+        assert_eq!(herd::calls::open(&mut table, 4, 6, 1), Opened::Opened);
         for contact in &order {
-            let added = herd::add(&mut table, contact.from, contact.to, contact.tick);
+            let added = herd::calls::add(&mut table, contact.from, contact.to, contact.tick);
             assert!(matches!(added, Added::New(_)), "{order:?} {added:?}");
         }
         same_words(&table, &session_table(), &order);
         let mut buffer = [9; 6];
-        let written = herd::write_log(&table, &mut buffer);
+        let written = herd::calls::write_log(&table, &mut buffer);
         assert_eq!(written, Written::Written(5));
         assert_eq!(buffer[..5], LOG);
         assert_eq!(buffer[5], 9);
         let mut buffer = [7; 5];
-        let chain = herd::chain(&table, 0, 3, 1, 6, &mut buffer);
+        let chain = herd::calls::chain(&table, 0, 3, 1, 6, &mut buffer);
         assert_eq!(chain, Chain::Contacts(2));
         assert_eq!(buffer, [0x4000_0401, 0x4004_0C03, 7, 7, 7]);
         let mut set = [7; 9];
-        let reached = herd::reached(&table, 0, 1, 6, &mut set);
+        let reached = herd::calls::reached(&table, 0, 1, 6, &mut set);
         assert_eq!(reached, Reached::Animals(2));
         assert_eq!(set, [0b1010, 0, 0, 0, 0, 0, 0, 0, 7]);
     }
@@ -89,7 +92,7 @@ fn the_session_in_two_yards() {
         let new = 3 - first.len() as u32;
         let mut joined = Lent::built(&mut random, opening, &first).words;
         let second = Lent::built(&mut random, opening, &second).words;
-        assert_eq!(herd::join(&mut joined, &second), Joined::New(new));
+        assert_eq!(herd::calls::join(&mut joined, &second), Joined::New(new));
         same_words(&joined, &session_table(), yards);
     }
 }
@@ -109,21 +112,30 @@ fn contacts_of_the_session_come_out_again() {
     for (contact, without) in session().into_iter().zip(without) {
         let (u, v, t) = (contact.from, contact.to, contact.tick);
         let (mut table, mut work) = (session_table(), random.words(113));
-        assert_eq!(herd::remove(&mut table, &mut work, u, v, t), Done::Done);
+        assert_eq!(
+            herd::calls::remove(&mut table, &mut work, u, v, t),
+            Done::Done
+        );
         same_words(&table, &without, contact);
         same_words(&work, &without, contact);
-        let again = herd::remove(&mut table, &mut work, u, v, t);
+        let again = herd::calls::remove(&mut table, &mut work, u, v, t);
         assert_eq!(again, Done::Refused(21), "{contact:?}");
-        assert!(matches!(herd::add(&mut table, u, v, t), Added::New(_)));
+        assert!(matches!(
+            herd::calls::add(&mut table, u, v, t),
+            Added::New(_)
+        ));
         same_words(&table, &session_table(), contact);
     }
     let mut opened = random.words(113);
-    assert_eq!(herd::open(&mut opened, 4, 6, 1), Opened::Opened);
+    assert_eq!(herd::calls::open(&mut opened, 4, 6, 1), Opened::Opened);
     for order in orders(&session()) {
         let (mut table, mut work) = (session_table(), random.words(113));
         for contact in &order {
             let (u, v, t) = (contact.from, contact.to, contact.tick);
-            assert_eq!(herd::remove(&mut table, &mut work, u, v, t), Done::Done);
+            assert_eq!(
+                herd::calls::remove(&mut table, &mut work, u, v, t),
+                Done::Done
+            );
         }
         same_words(&table, &opened, &order);
         same_words(&work, &opened, &order);
@@ -152,9 +164,12 @@ fn a_misread_tag_comes_out_again() {
         let mut work = random.words(table.len());
         for noted in held.iter().filter(|c| c.from == 21 || c.to == 21) {
             let (u, v, t) = (noted.from, noted.to, noted.tick);
-            assert_eq!(herd::remove(&mut table, &mut work, u, v, t), Done::Done);
+            assert_eq!(
+                herd::calls::remove(&mut table, &mut work, u, v, t),
+                Done::Done
+            );
             let Contact { from, to, tick } = tag(*noted, 21, 12);
-            let added = herd::add(&mut table, from, to, tick);
+            let added = herd::calls::add(&mut table, from, to, tick);
             assert!(matches!(added, Added::New(_)), "{noted:?} {added:?}");
             misread += 1;
         }
@@ -326,12 +341,12 @@ fn longer_carry_times() {
 fn adds_of_the_session_in_an_order_of_their_own() {
     for carry in 1..=3 {
         let mut table = vec![9; 113];
-        assert_eq!(herd::open(&mut table, 4, 6, carry), Opened::Opened);
-        assert_eq!(herd::add(&mut table, 1, 3, 4), Added::New(1));
-        assert_eq!(herd::add(&mut table, 0, 1, 1), Added::New(2));
+        assert_eq!(herd::calls::open(&mut table, 4, 6, carry), Opened::Opened);
+        assert_eq!(herd::calls::add(&mut table, 1, 3, 4), Added::New(1));
+        assert_eq!(herd::calls::add(&mut table, 0, 1, 1), Added::New(2));
         let joined = if carry < 3 { 2 } else { 1 };
-        assert_eq!(herd::add(&mut table, 0, 1, 2), Added::New(joined));
-        assert_eq!(herd::add(&mut table, 0, 1, 1), Added::Known(0));
+        assert_eq!(herd::calls::add(&mut table, 0, 1, 2), Added::New(joined));
+        assert_eq!(herd::calls::add(&mut table, 0, 1, 1), Added::Known(0));
     }
 }
 
@@ -364,7 +379,7 @@ fn five_animals() {
         ] {
             let (u, v, first, last) = question;
             let mut buffer = [7; 6];
-            let answer = herd::chain(&lent.words, u, v, first, last, &mut buffer);
+            let answer = herd::calls::chain(&lent.words, u, v, first, last, &mut buffer);
             let told = match expected.len() as u32 {
                 0 => Chain::NoJourney,
                 contacts => Chain::Contacts(contacts),

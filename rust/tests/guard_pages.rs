@@ -1,14 +1,14 @@
 //! Every call with its lent words beside memory that cannot be read or written, and with lengths beyond 32 bits.
 
-use herd::testing::cases;
-use herd::testing::compare::same_words;
-use herd::testing::guard::{Guarded, Memory, Place};
-use herd::testing::model::{self, Contacts};
-use herd::testing::random::Random;
-use herd::testing::suite::{draws, Call, Export, Lent, Reply, Suite};
-use herd::testing::words::{self, Opening, Stay, LAST_PEN};
-use herd::{Added, Answer, Chain, Done, Found, Joined, Opened};
-use herd::{Reached, Read, StaysAdded, Written};
+use herd::calls::{Added, Answer, Chain, Done, Found, Joined, Opened};
+use herd::calls::{Reached, Read, StaysAdded, Written};
+use herd_testing::cases;
+use herd_testing::compare::same_words;
+use herd_testing::guard::{Guarded, Memory, Place};
+use herd_testing::model::{self, Contacts};
+use herd_testing::random::Random;
+use herd_testing::suite::{draws, Call, Export, Lent, Reply, Suite};
+use herd_testing::words::{self, Opening, Stay, LAST_PEN};
 use std::env;
 use std::os::unix::process::ExitStatusExt;
 use std::process::Command;
@@ -362,27 +362,30 @@ fn tables_of_more_words_than_32_bits_count() {
     let table = words::table(opening, &cases::full_cells(opening));
     let mut lent = vast(&table);
     let mut buffer = [7; 80];
-    assert_eq!(herd::open(&mut lent, 4, 6, 1), Opened::Refused(4));
+    assert_eq!(herd::calls::open(&mut lent, 4, 6, 1), Opened::Refused(4));
     let log = words::log(opening, cases::legal_contacts(opening));
-    assert_eq!(herd::read_log(&log, &mut lent), Read::Refused(4));
-    assert_eq!(herd::add(&mut lent, 0, 1, 1), Added::Refused(5));
-    assert_eq!(herd::join(&mut lent, &table), Joined::Refused(5));
+    assert_eq!(herd::calls::read_log(&log, &mut lent), Read::Refused(4));
+    assert_eq!(herd::calls::add(&mut lent, 0, 1, 1), Added::Refused(5));
+    assert_eq!(herd::calls::join(&mut lent, &table), Joined::Refused(5));
     let stays = [0, 63, 1, 6, 1, 63, 1, 6];
-    assert_eq!(herd::stays(&mut lent, &stays), StaysAdded::Refused(5));
+    assert_eq!(
+        herd::calls::stays(&mut lent, &stays),
+        StaysAdded::Refused(5)
+    );
     let mut work = table.clone();
-    let removed = herd::remove(&mut lent, &mut work, 0, 1, 1);
+    let removed = herd::calls::remove(&mut lent, &mut work, 0, 1, 1);
     assert_eq!((removed, &work), (Done::Refused(5), &table));
-    let written = herd::write_log(&lent, &mut buffer);
+    let written = herd::calls::write_log(&lent, &mut buffer);
     assert_eq!(written, Written::Refused(5));
-    assert_eq!(herd::reach(&lent, 0, 1, 1, 6), Answer::Refused(5));
-    assert_eq!(herd::earliest(&lent, 0, 1, 1), Found::Refused(5));
-    assert_eq!(herd::latest(&lent, 0, 1, 7), Found::Refused(5));
-    assert_eq!(herd::connected(&lent, 1, 6), Answer::Refused(5));
-    let reached = herd::reached(&lent, 0, 1, 6, &mut buffer);
+    assert_eq!(herd::calls::reach(&lent, 0, 1, 1, 6), Answer::Refused(5));
+    assert_eq!(herd::calls::earliest(&lent, 0, 1, 1), Found::Refused(5));
+    assert_eq!(herd::calls::latest(&lent, 0, 1, 7), Found::Refused(5));
+    assert_eq!(herd::calls::connected(&lent, 1, 6), Answer::Refused(5));
+    let reached = herd::calls::reached(&lent, 0, 1, 6, &mut buffer);
     assert_eq!(reached, Reached::Refused(5));
-    let chain = herd::chain(&lent, 0, 1, 1, 6, &mut buffer);
+    let chain = herd::calls::chain(&lent, 0, 1, 1, 6, &mut buffer);
     assert_eq!(chain, Chain::Refused(5));
-    let claimed = herd::claimed(&lent, 0, 1, 1, 6, &[0x4000_0400]);
+    let claimed = herd::calls::claimed(&lent, 0, 1, 1, 6, &[0x4000_0400]);
     assert_eq!(claimed, Answer::Refused(5));
     same_words(&lent[..table.len()], &table, "vast");
     assert!(lent[table.len()..10_000].iter().all(|&word| word == 0));
@@ -396,36 +399,36 @@ fn more_words_beside_a_table_than_32_bits_count() {
     let table = words::table(opening, &cases::full_cells(opening));
     let log = words::log(opening, cases::legal_contacts(opening));
     let mut buffer = vast(&[]);
-    let chain = herd::chain(&table, 0, 1, 1, 6, &mut buffer);
+    let chain = herd::calls::chain(&table, 0, 1, 1, 6, &mut buffer);
     assert_eq!(chain, Chain::Contacts(1));
     assert_eq!(buffer[..4], [0x4000_0400, 0, 0, 0]);
-    let reached = herd::reached(&table, 0, 1, 6, &mut buffer);
+    let reached = herd::calls::reached(&table, 0, 1, 6, &mut buffer);
     assert_eq!(reached, Reached::Animals(3));
     assert_eq!(buffer[..9], [0b1110, 0, 0, 0, 0, 0, 0, 0, 0]);
-    let written = herd::write_log(&table, &mut buffer);
+    let written = herd::calls::write_log(&table, &mut buffer);
     assert_eq!(written, Written::Written(log.len() as u32));
     same_words(&buffer[..log.len()], &log, "vast");
     assert!(buffer[log.len()..1_000].iter().all(|&word| word == 0));
 
     let chain = vast(&[0x4000_0400]);
-    let claimed = herd::claimed(&table, 0, 1, 1, 6, &chain);
+    let claimed = herd::calls::claimed(&table, 0, 1, 1, 6, &chain);
     assert_eq!(claimed, Answer::No);
-    let claimed = herd::claimed(&table, 0, 1, 1, 6, &chain[..1]);
+    let claimed = herd::calls::claimed(&table, 0, 1, 1, 6, &chain[..1]);
     assert_eq!(claimed, Answer::Yes);
 
     let second = vast(&table);
     let mut first = table.clone();
-    assert_eq!(herd::join(&mut first, &second), Joined::Refused(5));
-    let joined = herd::join(&mut first, &second[..table.len()]);
+    assert_eq!(herd::calls::join(&mut first, &second), Joined::Refused(5));
+    let joined = herd::calls::join(&mut first, &second[..table.len()]);
     assert_eq!((joined, first), (Joined::New(0), table.clone()));
 
     let mut work = vast(&table);
     let mut after = table.clone();
-    let removed = herd::remove(&mut after, &mut work, 0, 1, 1);
+    let removed = herd::calls::remove(&mut after, &mut work, 0, 1, 1);
     assert_eq!((removed, &after), (Done::Refused(20), &table));
     same_words(&work[..table.len()], &table, "vast");
     assert!(work[table.len()..1_000].iter().all(|&word| word == 0));
-    let removed = herd::remove(&mut after, &mut work[..table.len()], 0, 1, 1);
+    let removed = herd::calls::remove(&mut after, &mut work[..table.len()], 0, 1, 1);
     assert_eq!((removed, work[table.len()]), (Done::Done, 0));
     same_words(&work[..table.len()], &after, "vast");
     assert_ne!(after, table);
@@ -434,17 +437,20 @@ fn more_words_beside_a_table_than_32_bits_count() {
     let mut after = model::fresh_table(opening, &Contacts::new());
     let empty = after.clone();
     let refused = StaysAdded::Refused(18);
-    assert_eq!(herd::stays(&mut after, &stays), refused);
-    assert_eq!(herd::stays(&mut after, &stays[..1 << 32]), refused);
+    assert_eq!(herd::calls::stays(&mut after, &stays), refused);
+    assert_eq!(herd::calls::stays(&mut after, &stays[..1 << 32]), refused);
     assert_eq!(after, empty);
-    let added = herd::stays(&mut after, &stays[..8]);
+    let added = herd::calls::stays(&mut after, &stays[..8]);
     assert_eq!(added, StaysAdded::New(2));
 
     let mut lent = vast(&log);
     let mut after = vec![5; table.len()];
-    assert_eq!(herd::read_log(&lent, &mut after), Read::Refused(12));
-    assert_eq!(herd::read_log(&lent, &mut after[1..]), Read::Refused(4));
+    assert_eq!(herd::calls::read_log(&lent, &mut after), Read::Refused(12));
+    assert_eq!(
+        herd::calls::read_log(&lent, &mut after[1..]),
+        Read::Refused(4)
+    );
     lent[0] = 0;
-    assert_eq!(herd::read_log(&lent, &mut after), Read::Refused(11));
+    assert_eq!(herd::calls::read_log(&lent, &mut after), Read::Refused(11));
     assert_eq!(after, vec![5; table.len()]);
 }

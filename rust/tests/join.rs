@@ -1,13 +1,13 @@
 //! Joining two tables: what both hold together, adding singly in any order, and the checks of either.
 
-use herd::testing::cases;
-use herd::testing::check;
-use herd::testing::compare::same_words;
-use herd::testing::model::{self, Contacts};
-use herd::testing::random::Random;
-use herd::testing::suite::{draws, Call, Export, Lent, Reply, Suite};
-use herd::testing::words::{self, Cells, Contact, Interval, Opening};
-use herd::{Added, Joined, Written};
+use herd::calls::{Added, Joined, Written};
+use herd_testing::cases;
+use herd_testing::check;
+use herd_testing::compare::same_words;
+use herd_testing::model::{self, Contacts};
+use herd_testing::random::Random;
+use herd_testing::suite::{draws, Call, Export, Lent, Reply, Suite};
+use herd_testing::words::{self, Cells, Contact, Interval, Opening};
 
 /// The refusals of a join.
 const REFUSALS: [u32; 3] = [5, 6, 17];
@@ -29,7 +29,7 @@ fn require(suite: &mut Suite, first: &Lent, second: &Lent, new: usize) {
 #[track_caller]
 fn joined(first: &[u32], second: &[u32]) -> (Joined, Vec<u32>) {
     let (mut after, lent) = (first.to_vec(), second.to_vec());
-    let answer = herd::join(&mut after, &lent);
+    let answer = herd::calls::join(&mut after, &lent);
     same_words(&lent, second, "the second table");
     (answer, after)
 }
@@ -238,7 +238,7 @@ fn every_pair_of_small_well_formed_tables() {
 /// The number of contacts that the table's log lists.
 fn contacts_listed(opening: Opening, table: &[u32]) -> u32 {
     let mut buffer = vec![0; opening.table_words() + 1];
-    match herd::write_log(table, &mut buffer) {
+    match herd::calls::write_log(table, &mut buffer) {
         Written::Written(words) => words - 2,
         Written::Refused(number) => panic!("{opening:?}: refused {number}"),
     }
@@ -249,7 +249,7 @@ fn added(first: &[u32], contacts: &[Contact]) -> (Joined, Vec<u32>) {
     let mut after = first.to_vec();
     let mut new = 0;
     for contact in contacts {
-        match herd::add(&mut after, contact.from, contact.to, contact.tick) {
+        match herd::calls::add(&mut after, contact.from, contact.to, contact.tick) {
             Added::New(_) => new += 1,
             Added::Known(_) => (),
             Added::Refused(number) => panic!("{contact:?}: refused {number}"),
@@ -475,8 +475,8 @@ fn halves_of_every_legal_contact() {
         let [one, other] = [one, other].map(|half| {
             let log = words::log(opening, half.iter().copied());
             let mut table = random.words(full.len());
-            let read = herd::read_log(&log, &mut table);
-            assert_eq!(read, herd::Read::Contacts(half.len() as u32));
+            let read = herd::calls::read_log(&log, &mut table);
+            assert_eq!(read, herd::calls::Read::Contacts(half.len() as u32));
             table
         });
         let empty = model::fresh_table(opening, &Contacts::new());
@@ -644,9 +644,9 @@ fn random_words_in_both() {
 
 #[test]
 fn empty_slices() {
-    assert_eq!(herd::join(&mut [], &[]), Joined::Refused(5));
+    assert_eq!(herd::calls::join(&mut [], &[]), Joined::Refused(5));
     let mut table = model::fresh_table(Opening::new(1, 1, 1), &Contacts::new());
-    assert_eq!(herd::join(&mut [], &table), Joined::Refused(5));
-    assert_eq!(herd::join(&mut table, &[]), Joined::Refused(5));
+    assert_eq!(herd::calls::join(&mut [], &table), Joined::Refused(5));
+    assert_eq!(herd::calls::join(&mut table, &[]), Joined::Refused(5));
     assert_eq!(table, [0x8000_0000, 0xC000_0000, 0]);
 }

@@ -1,15 +1,15 @@
 //! The plain search and the rule on stored intervals themselves, on document 01's cases and against each other.
 
-use herd::testing::calls::{self, Known};
-use herd::testing::cases;
-use herd::testing::contents::Contents;
-use herd::testing::listing::Listing;
-use herd::testing::model::{self, Contacts, Journeys};
-use herd::testing::random::Random;
-use herd::testing::rule::Stored;
-use herd::testing::suite::{draws, Export, Lent};
-use herd::testing::words::{self, Cells, Contact, Interval, Opening, Stay, Window, LAST_PEN};
-use herd::{Added, Done, Joined, Read, StaysAdded};
+use herd::calls::{Added, Done, Joined, Read, StaysAdded};
+use herd_testing::calls::{self, Known};
+use herd_testing::cases;
+use herd_testing::contents::Contents;
+use herd_testing::listing::Listing;
+use herd_testing::model::{self, Contacts, Journeys};
+use herd_testing::random::Random;
+use herd_testing::rule::Stored;
+use herd_testing::suite::{draws, Export, Lent};
+use herd_testing::words::{self, Cells, Contact, Interval, Opening, Stay, Window, LAST_PEN};
 use std::collections::BTreeSet;
 use std::fmt::Debug;
 

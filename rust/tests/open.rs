@@ -1,9 +1,9 @@
 //! Opening: the limits, the length and the order of the refusals.
 
-use herd::testing::random::Random;
-use herd::testing::suite::{draws, Call, Export, Lent, Reply, Suite};
-use herd::testing::words::Opening;
-use herd::Opened;
+use herd::calls::Opened;
+use herd_testing::random::Random;
+use herd_testing::suite::{draws, Call, Export, Lent, Reply, Suite};
+use herd_testing::words::Opening;
 
 /// Numbers of animals at and beyond the limits, with some whose square wraps in 32 bits.
 const ANIMALS: [u32; 10] = [0, 1, 2, 3, 255, 256, 257, 1 << 16, 1 << 31, u32::MAX];
@@ -65,14 +65,14 @@ fn refusals_come_in_order() {
         ((256, 1024, 256), 4),
     ];
     for ((animals, ticks, carry), number) in refused {
-        let answer = herd::open(&mut table, animals, ticks, carry);
+        let answer = herd::calls::open(&mut table, animals, ticks, carry);
         assert_eq!(answer, Opened::Refused(number), "{animals} {ticks} {carry}");
         assert_eq!(table, [7; 113]);
-        let empty = herd::open(&mut [], animals, ticks, carry);
+        let empty = herd::calls::open(&mut [], animals, ticks, carry);
         assert_eq!(empty, Opened::Refused(number), "{animals} {ticks} {carry}");
     }
-    assert_eq!(herd::open(&mut [], 4, 6, 1), Opened::Refused(4));
-    assert_eq!(herd::open(&mut table, 4, 6, 1), Opened::Opened);
+    assert_eq!(herd::calls::open(&mut [], 4, 6, 1), Opened::Refused(4));
+    assert_eq!(herd::calls::open(&mut table, 4, 6, 1), Opened::Opened);
     assert_eq!(table[..3], [0x800C_0005, 0xC000_0000, 0]);
 }
 

@@ -1,10 +1,10 @@
 //! Questions whose answers can be said by a formula.
 
-use herd::testing::cases;
-use herd::testing::random::Random;
-use herd::testing::suite::{Call, Export, Lent, Reply, Suite};
-use herd::testing::words::{self, Contact, Interval, Opening};
-use herd::Found;
+use herd::calls::Found;
+use herd_testing::cases;
+use herd_testing::random::Random;
+use herd_testing::suite::{Call, Export, Lent, Reply, Suite};
+use herd_testing::words::{self, Contact, Interval, Opening};
 
 /// Yes where it is so, else no.
 fn answered(so: bool) -> Reply {
@@ -125,8 +125,12 @@ fn both_ends_at_their_limits() {
             (1280, Found::Nothing, last),
             (1281, Found::Refused(9), Found::Refused(9)),
         ] {
-            assert_eq!(herd::earliest(&table, 0, 1, tick), earliest, "{tick}");
-            assert_eq!(herd::latest(&table, 0, 1, tick), latest, "{tick}");
+            assert_eq!(
+                herd::calls::earliest(&table, 0, 1, tick),
+                earliest,
+                "{tick}"
+            );
+            assert_eq!(herd::calls::latest(&table, 0, 1, tick), latest, "{tick}");
         }
     }
 }
@@ -223,8 +227,8 @@ fn sets_of_many_animals() {
                 }
                 let (first, last) = (1, 1);
                 let mut lent_set = set.clone();
-                let reached = herd::reached(&lent.words, u, first, last, &mut lent_set);
-                assert_eq!(reached, herd::Reached::Animals(met.len() as u32));
+                let reached = herd::calls::reached(&lent.words, u, first, last, &mut lent_set);
+                assert_eq!(reached, herd::calls::Reached::Animals(met.len() as u32));
                 assert_eq!(lent_set, after, "{opening:?} {u} {room}");
                 let call = Call::Reached(u, first, last, set);
                 suite.require(&lent, &call, Reply::Animals(met.len() as u32));

@@ -1,12 +1,12 @@
 //! Reading logs: orders and repeats of contacts, and wrong words at every place.
 
-use herd::testing::cases;
-use herd::testing::compare::{same_table, same_words};
-use herd::testing::model::{self, Contacts};
-use herd::testing::random::Random;
-use herd::testing::suite::{Call, Export, Lent, Reply, Suite};
-use herd::testing::words::{self, Contact, Interval, Opening};
-use herd::{read_log, write_log, Added, Opened, Read, Written};
+use herd::calls::{read_log, write_log, Added, Opened, Read, Written};
+use herd_testing::cases;
+use herd_testing::compare::{same_table, same_words};
+use herd_testing::model::{self, Contacts};
+use herd_testing::random::Random;
+use herd_testing::suite::{Call, Export, Lent, Reply, Suite};
+use herd_testing::words::{self, Contact, Interval, Opening};
 use std::collections::BTreeMap;
 
 /// The refusals of reading a log.
@@ -263,10 +263,13 @@ fn reading_opens_and_adds_all() {
         let (n, ticks, carry) = (opening.animals, opening.ticks, opening.carry);
         let contacts = cases::log_contacts(&mut random, opening, 30);
         let mut added = random.words(opening.table_words());
-        assert_eq!(herd::open(&mut added, n, ticks, carry), Opened::Opened);
+        assert_eq!(
+            herd::calls::open(&mut added, n, ticks, carry),
+            Opened::Opened
+        );
         let mut new = 0;
         for contact in &contacts {
-            match herd::add(&mut added, contact.from, contact.to, contact.tick) {
+            match herd::calls::add(&mut added, contact.from, contact.to, contact.tick) {
                 Added::New(_) => new += 1,
                 Added::Known(_) => (),
                 Added::Refused(number) => panic!("{opening:?} {contact:?}: {number}"),

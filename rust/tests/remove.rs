@@ -1,15 +1,15 @@
 //! Removing a contact: a fresh load of what is left, lists of calls, the words lent for work, and the order of the checks.
 
-use herd::testing::calls::Known;
-use herd::testing::cases;
-use herd::testing::check;
-use herd::testing::compare::same_words;
-use herd::testing::contents::Contents;
-use herd::testing::model::{self, Contacts};
-use herd::testing::random::Random;
-use herd::testing::suite::{draws, Call, Export, Lent, Reply, Suite};
-use herd::testing::words::{self, Cells, Contact, Interval, Opening};
-use herd::{Added, Done, Opened, Read, Written};
+use herd::calls::{Added, Done, Opened, Read, Written};
+use herd_testing::calls::Known;
+use herd_testing::cases;
+use herd_testing::check;
+use herd_testing::compare::same_words;
+use herd_testing::contents::Contents;
+use herd_testing::model::{self, Contacts};
+use herd_testing::random::Random;
+use herd_testing::suite::{draws, Call, Export, Lent, Reply, Suite};
+use herd_testing::words::{self, Cells, Contact, Interval, Opening};
 use std::collections::BTreeMap;
 
 /// The refusals of a removal, in the order of its checks.
@@ -100,7 +100,7 @@ fn require(
 fn removed(table: &[u32], work: &[u32], contact: Contact) -> (Done, [Vec<u32>; 2]) {
     let [mut table, mut work] = [table, work].map(<[u32]>::to_vec);
     let (u, v, t) = (contact.from, contact.to, contact.tick);
-    let answer = herd::remove(&mut table, &mut work, u, v, t);
+    let answer = herd::calls::remove(&mut table, &mut work, u, v, t);
     (answer, [table, work])
 }
 
@@ -134,7 +134,7 @@ fn loaded(random: &mut Random, opening: Opening, contacts: &[Contact]) -> Vec<u3
     random.shuffle(&mut contacts);
     let number = contacts.len() as u32;
     let mut table = random.words(opening.table_words());
-    let read = herd::read_log(&words::log(opening, contacts), &mut table);
+    let read = herd::calls::read_log(&words::log(opening, contacts), &mut table);
     assert_eq!(read, Read::Contacts(number));
     table
 }
@@ -143,7 +143,7 @@ fn loaded(random: &mut Random, opening: Opening, contacts: &[Contact]) -> Vec<u3
 #[track_caller]
 fn log_of(table: &[u32]) -> Vec<u32> {
     let mut buffer = vec![0; table.len() + 2];
-    match herd::write_log(table, &mut buffer) {
+    match herd::calls::write_log(table, &mut buffer) {
         Written::Written(words) => buffer.truncate(words as usize),
         Written::Refused(number) => panic!("refused {number}"),
     }
@@ -335,7 +335,7 @@ fn adding_back_gives_the_same_words() {
             let (u, v, t) = (contact.from, contact.to, contact.tick);
             let mut table = left(&mut random, &lent.words, contact);
             let changed = model::changed_pairs(&cells(&table), &cells(&closed));
-            let added = herd::add(&mut table, u, v, t);
+            let added = herd::calls::add(&mut table, u, v, t);
             assert_eq!(added, Added::New(changed), "{opening:?} {contact:?}");
             same_words(&table, &closed, (opening, &lent.held, contact));
             times.note("the same words", table == lent.words);
@@ -371,7 +371,10 @@ impl Yard {
     fn new(random: &mut Random, opening: Opening) -> Yard {
         let mut table = random.words(opening.table_words());
         let (n, ticks, carry) = (opening.animals, opening.ticks, opening.carry);
-        assert_eq!(herd::open(&mut table, n, ticks, carry), Opened::Opened);
+        assert_eq!(
+            herd::calls::open(&mut table, n, ticks, carry),
+            Opened::Opened
+        );
         let left = Contacts::new();
         same_words(&table, &model::fresh_table(opening, &left), opening);
         Yard {
@@ -392,12 +395,12 @@ impl Yard {
         let reply = suite.compare(&self.lent(), call);
         let mut for_work = Vec::new();
         let made: Reply = match *call {
-            Call::Add(u, v, t) => herd::add(&mut self.table, u, v, t).into(),
-            Call::Join(ref second) => herd::join(&mut self.table, second).into(),
-            Call::Stays(ref stays) => herd::stays(&mut self.table, stays).into(),
+            Call::Add(u, v, t) => herd::calls::add(&mut self.table, u, v, t).into(),
+            Call::Join(ref second) => herd::calls::join(&mut self.table, second).into(),
+            Call::Stays(ref stays) => herd::calls::stays(&mut self.table, stays).into(),
             Call::Remove(u, v, t, ref work) => {
                 for_work.clone_from(work);
-                herd::remove(&mut self.table, &mut for_work, u, v, t).into()
+                herd::calls::remove(&mut self.table, &mut for_work, u, v, t).into()
             }
             _ => panic!("{call:?} leaves the contacts"),
         };
@@ -633,13 +636,16 @@ fn all_contacts_in_any_order() {
             } else {
                 (&mut work, &mut table)
             };
-            assert_eq!(herd::remove(first, second, u, v, t), Done::Done);
+            assert_eq!(herd::calls::remove(first, second, u, v, t), Done::Done);
             same_words(first, &model::fresh_table(opening, &held), contact);
             same_words(second, first, contact);
         }
         let mut opened = random.words(table.len());
         let (n, ticks, carry) = (opening.animals, opening.ticks, opening.carry);
-        assert_eq!(herd::open(&mut opened, n, ticks, carry), Opened::Opened);
+        assert_eq!(
+            herd::calls::open(&mut opened, n, ticks, carry),
+            Opened::Opened
+        );
         if !order.is_empty() {
             same_words(&table, &opened, (opening, &order));
             same_words(&work, &opened, (opening, &order));
@@ -1216,10 +1222,10 @@ fn the_only_contact() {
             for t in [1, ticks, 1 + ticks / 2] {
                 let contact = Contact::new(u, v, t);
                 let mut table = random.words(opening.table_words());
-                let opened = herd::open(&mut table, animals, ticks, carry);
+                let opened = herd::calls::open(&mut table, animals, ticks, carry);
                 assert_eq!(opened, Opened::Opened);
                 let empty = table.clone();
-                assert_eq!(herd::add(&mut table, u, v, t), Added::New(1));
+                assert_eq!(herd::calls::add(&mut table, u, v, t), Added::New(1));
                 assert_ne!(table, empty, "{opening:?} {contact:?}");
                 let after = left(&mut random, &table, contact);
                 same_words(&after, &empty, (opening, contact));
@@ -1331,10 +1337,16 @@ fn one_of_every_legal_contact() {
 
 #[test]
 fn empty_slices() {
-    assert_eq!(herd::remove(&mut [], &mut [], 0, 1, 1), Done::Refused(5));
+    assert_eq!(
+        herd::calls::remove(&mut [], &mut [], 0, 1, 1),
+        Done::Refused(5)
+    );
     let mut table = model::fresh_table(Opening::new(2, 1, 1), &[Contact::new(0, 1, 1)].into());
     let before = table.clone();
-    assert_eq!(herd::remove(&mut [], &mut table, 0, 1, 1), Done::Refused(5));
-    let refused = herd::remove(&mut table, &mut [], 0, 1, 1);
+    assert_eq!(
+        herd::calls::remove(&mut [], &mut table, 0, 1, 1),
+        Done::Refused(5)
+    );
+    let refused = herd::calls::remove(&mut table, &mut [], 0, 1, 1);
     assert_eq!((refused, &table), (Done::Refused(20), &before));
 }

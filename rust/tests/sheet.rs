@@ -1,10 +1,10 @@
 //! The printing program, on the pairs of `sheets/` and on made inputs.
 
-use herd::testing::cases;
-use herd::testing::program::Program;
-use herd::testing::random::Random;
-use herd::testing::sheet::{self, MOST_ANIMALS, MOST_BYTES, MOST_TICKS};
-use herd::testing::words::{self, Opening};
+use herd_testing::cases;
+use herd_testing::program::Program;
+use herd_testing::random::Random;
+use herd_testing::sheet::{self, MOST_ANIMALS, MOST_BYTES, MOST_TICKS};
+use herd_testing::words::{self, Opening};
 use std::collections::{BTreeMap, BTreeSet};
 use std::fs;
 use std::path::{Path, PathBuf};

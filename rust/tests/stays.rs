@@ -1,15 +1,16 @@
 //! Adding the contacts of stays: who shared a pen, adding singly in any order, and the checks of table and records.
 
-use herd::testing::calls::Known;
-use herd::testing::cases;
-use herd::testing::check;
-use herd::testing::compare::same_words;
-use herd::testing::contents::Contents;
-use herd::testing::model::{self, Contacts};
-use herd::testing::random::Random;
-use herd::testing::suite::{draws, Call, Export, Lent, Reply, Suite};
-use herd::testing::words::{self, stays, Contact, Opening, LAST_PEN};
-use herd::{Added, Read, Stay, StaysAdded};
+use herd::calls::{Added, Read, StaysAdded};
+use herd::Stay;
+use herd_testing::calls::Known;
+use herd_testing::cases;
+use herd_testing::check;
+use herd_testing::compare::same_words;
+use herd_testing::contents::Contents;
+use herd_testing::model::{self, Contacts};
+use herd_testing::random::Random;
+use herd_testing::suite::{draws, Call, Export, Lent, Reply, Suite};
+use herd_testing::words::{self, stays, Contact, Opening, LAST_PEN};
 
 /// The refusals of a list of stays.
 const REFUSALS: [u32; 3] = [5, 6, 18];
@@ -30,14 +31,17 @@ fn require(suite: &mut Suite, lent: &Lent, list: &[Stay], new: usize) {
 fn require_18(suite: &mut Suite, lent: &Lent, words: &[u32]) {
     suite.require(lent, &Call::Stays(words.to_vec()), Reply::Refused(18));
     let mut table = lent.words.clone();
-    assert_eq!(herd::stays(&mut table, words), StaysAdded::Refused(18));
+    assert_eq!(
+        herd::calls::stays(&mut table, words),
+        StaysAdded::Refused(18)
+    );
     same_words(&table, &lent.words, words);
 }
 
 /// The answer to the stays, and the words of the table afterwards.
 fn added(table: &[u32], list: &[Stay]) -> (StaysAdded, Vec<u32>) {
     let mut after = table.to_vec();
-    let answer = herd::stays(&mut after, Stay::words(list));
+    let answer = herd::calls::stays(&mut after, Stay::words(list));
     (answer, after)
 }
 
@@ -432,7 +436,7 @@ fn added_singly(table: &[u32], contacts: &[Contact]) -> (StaysAdded, Vec<u32>) {
     let mut after = table.to_vec();
     let mut new = 0;
     for contact in contacts {
-        match herd::add(&mut after, contact.from, contact.to, contact.tick) {
+        match herd::calls::add(&mut after, contact.from, contact.to, contact.tick) {
             Added::New(_) => new += 1,
             Added::Known(_) => (),
             Added::Refused(number) => panic!("{contact:?}: refused {number}"),
@@ -961,7 +965,7 @@ fn after_all(opening: Opening, calls: &[Call]) -> (Vec<u32>, Contacts, Vec<Reply
 fn read(random: &mut Random, opening: Opening, contacts: &Contacts) -> Vec<u32> {
     let mut table = random.words(opening.table_words());
     let log = words::log(opening, contacts.iter().copied());
-    let answer = herd::read_log(&log, &mut table);
+    let answer = herd::calls::read_log(&log, &mut table);
     assert_eq!(answer, Read::Contacts(contacts.len() as u32), "{opening:?}");
     table
 }
@@ -1001,13 +1005,16 @@ fn adds_joins_and_stays_in_any_order() {
 
 #[test]
 fn empty_slices() {
-    assert_eq!(herd::stays(&mut [], &[]), StaysAdded::Refused(5));
+    assert_eq!(herd::calls::stays(&mut [], &[]), StaysAdded::Refused(5));
     let words = [0, 0, 1, 1];
-    assert_eq!(herd::stays(&mut [], &words), StaysAdded::Refused(5));
+    assert_eq!(herd::calls::stays(&mut [], &words), StaysAdded::Refused(5));
     let mut table = empty(Opening::new(1, 1, 1)).words;
-    assert_eq!(herd::stays(&mut table, &[]), StaysAdded::New(0));
-    assert_eq!(herd::stays(&mut table, &words), StaysAdded::New(0));
+    assert_eq!(herd::calls::stays(&mut table, &[]), StaysAdded::New(0));
+    assert_eq!(herd::calls::stays(&mut table, &words), StaysAdded::New(0));
     let incomplete = &words[1..];
-    assert_eq!(herd::stays(&mut table, incomplete), StaysAdded::Refused(18));
+    assert_eq!(
+        herd::calls::stays(&mut table, incomplete),
+        StaysAdded::Refused(18)
+    );
     assert_eq!(table, [0x8000_0000, 0xC000_0000, 0]);
 }

@@ -1,11 +1,11 @@
 //! Windows: which journeys fit one, by a list of every journey of a small set, and which windows are refused.
 
-use herd::testing::cases;
-use herd::testing::listing::Listing;
-use herd::testing::random::Random;
-use herd::testing::suite::{Call, Export, Lent, Outcome, Reply, Suite};
-use herd::testing::words::{self, contacts, Contact, Interval, Opening, Window};
-use herd::{Answer, Reached};
+use herd::calls::{Answer, Reached};
+use herd_testing::cases;
+use herd_testing::listing::Listing;
+use herd_testing::random::Random;
+use herd_testing::suite::{Call, Export, Lent, Outcome, Reply, Suite};
+use herd_testing::words::{self, contacts, Contact, Interval, Opening, Window};
 use std::collections::BTreeMap;
 
 /// Animals, ticks and carry times of small tables; some carry times are as long as the ticks or longer.
@@ -259,7 +259,7 @@ fn require(
     let buffer = vec![7; lent.opening.animals as usize];
     suite.require(lent, &Call::Chain(u, v, first, last, buffer), told);
     let mut set = [0; words::SET_WORDS];
-    let is_in = match herd::reached(&lent.words, u, first, last, &mut set) {
+    let is_in = match herd::calls::reached(&lent.words, u, first, last, &mut set) {
         Reached::Animals(_) => Ok(set[v as usize / 32] >> (v % 32) & 1 == 1),
         Reached::Refused(number) => Err(number),
     };
@@ -362,7 +362,7 @@ fn windows_and_single_ticks_at_their_limits() {
                 suite.require(&full, &Call::Connected(first, last), reply);
                 let mut set = random.words(8);
                 let before = set.clone();
-                let reached = herd::reached(&full.words, u, first, last, &mut set);
+                let reached = herd::calls::reached(&full.words, u, first, last, &mut set);
                 match window {
                     Ok(_) => assert_eq!(reached, Reached::Animals(animals - 1)),
                     Err(number) => assert_eq!((reached, set), (Reached::Refused(number), before)),
@@ -574,6 +574,6 @@ fn the_last_tick_of_the_longest_calendar_with_the_longest_carry_time() {
         (1025, 1, Answer::Refused(9)),
         (1024, 1, Answer::Refused(19)),
     ] {
-        assert_eq!(herd::connected(&table, first, last), answer);
+        assert_eq!(herd::calls::connected(&table, first, last), answer);
     }
 }

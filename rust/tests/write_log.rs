@@ -1,11 +1,11 @@
 //! Writing logs: buffers of every length about the log's own, on tables of every kind.
 
-use herd::testing::cases;
-use herd::testing::model::Contacts;
-use herd::testing::random::Random;
-use herd::testing::suite::{draws, Call, Export, Lent, Reply, Suite};
-use herd::testing::words::{Contact, Opening};
-use herd::{write_log, Written};
+use herd::calls::{write_log, Written};
+use herd_testing::cases;
+use herd_testing::model::Contacts;
+use herd_testing::random::Random;
+use herd_testing::suite::{draws, Call, Export, Lent, Reply, Suite};
+use herd_testing::words::{Contact, Opening};
 
 /// Writes into buffers of every length about the log's own, and compares.
 fn compare(suite: &mut Suite, random: &mut Random, lent: &Lent) {

@@ -1,11 +1,11 @@
 //! Random contacts, questions, tallies and damage, legal or not.
 
 use crate::session::{Question, Session, Tally, MOST_TABLE};
-use herd::testing::cases;
-use herd::testing::check;
-use herd::testing::contents::Contents;
-use herd::testing::random::Random;
-use herd::testing::words::{Contact, Opening};
+use herd_testing::cases;
+use herd_testing::check;
+use herd_testing::contents::Contents;
+use herd_testing::random::Random;
+use herd_testing::words::{Contact, Opening};
 
 /// An opening whose table fits in the program's memory; now and then the largest.
 pub fn opening(random: &mut Random) -> Opening {

@@ -6,10 +6,10 @@ mod met;
 mod program;
 mod session;
 
-use herd::testing::cases;
-use herd::testing::model::{self, Contacts};
-use herd::testing::random::Random;
-use herd::testing::words::{self, Contact, Opening};
+use herd_testing::cases;
+use herd_testing::model::{self, Contacts};
+use herd_testing::random::Random;
+use herd_testing::words::{self, Contact, Opening};
 use met::Kind::{Answer, Refusal};
 use met::Met;
 use session::{

@@ -1,6 +1,6 @@
 //! The program that lends a tally and a list of question records.
 
-use herd::testing::program::Program;
+use herd_testing::program::Program;
 use std::time::Duration;
 
 /// The program, which leaves its input where a command ends the run.

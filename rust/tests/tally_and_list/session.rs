@@ -2,10 +2,10 @@
 
 use crate::met::Met;
 use crate::program;
-use herd::testing::calls;
-use herd::testing::check;
-use herd::testing::words::Opening;
-use herd::{Added, Answer, Done, Opened};
+use herd::calls::{Added, Answer, Done, Opened};
+use herd_testing::calls;
+use herd_testing::check;
+use herd_testing::words::Opening;
 use std::fmt::Debug;
 
 /// The words of the program's memory, and of its second memory.
