@@ -74,7 +74,7 @@ pub enum Error {
     NoSuchPen(u32),
     /// A stay is not one of the herd's animals and ticks, or in no pen (refusal 18).
     Stay {
-        /// Its place in the list, counted from 0.
+        /// Its place in the list, counted from 0; 0 where it was judged alone.
         place: usize,
         /// The stay.
         stay: Stay,
@@ -201,12 +201,8 @@ impl Error {
                 opening(f, second)
             }
             Error::NoSuchPen(pen) => write!(f, "there is no pen {pen}, the pens are 0 to 63"),
-            Error::Stay {
-                place,
-                stay,
-                reason,
-            } => {
-                write!(f, "stay {place} of the list, {stay}: ")?;
+            Error::Stay { stay, reason, .. } => {
+                write!(f, "stay of {stay}: ")?;
                 reason.reason(f)
             }
             Error::NoOpeningWord => {

@@ -2,7 +2,7 @@
 
 use crate::calls::{self, Added as Add, Answer, Chain, Done, Found, Joined, Opened};
 use crate::calls::{Reached, StaysAdded};
-use crate::words::{self, Opening, LAST_PEN};
+use crate::words::{self, Opening};
 use crate::{Contact, Error, Interval, Stay};
 use std::fmt;
 use std::ops::RangeInclusive;
@@ -133,6 +133,48 @@ impl Herd {
         self.held
     }
 
+    /// Whether a contact is one of the herd's animals and ticks, held or not. No call of the engine is made, so this is
+    /// quick.
+    ///
+    /// # Errors
+    ///
+    /// [`Error::Contact`] with the reason for which [`add`](Herd::add) would refuse it.
+    ///
+    /// ```
+    /// use herd::Herd;
+    ///
+    /// let herd = Herd::open(4, 6, 1)?;
+    /// herd.judge((0, 1, 6))?;
+    /// assert_eq!(herd.judge((0, 1, 7)).unwrap_err().number(), Some(9));
+    /// # Ok::<(), herd::Error>(())
+    /// ```
+    pub fn judge(&self, contact: impl Into<Contact>) -> Result<(), Error> {
+        self.opening.contact_word(contact.into()).map(|_| ())
+    }
+
+    /// Whether a stay is of the herd's animals and ticks, and in a pen from 0 to 63. No call of the engine is made, so this
+    /// is quick.
+    ///
+    /// # Errors
+    ///
+    /// [`Error::Stay`] with the reason for which [`stays`](Herd::stays) would refuse it.
+    ///
+    /// ```
+    /// use herd::Herd;
+    ///
+    /// let herd = Herd::open(4, 6, 1)?;
+    /// herd.judge_stay((3, 63, 1, 6))?;
+    /// let error = herd.judge_stay((3, 64, 1, 6)).unwrap_err();
+    /// assert_eq!(
+    ///     error.to_string(),
+    ///     "stay of animal 3 in pen 64 from tick 1 to tick 6: there is no pen 64, the pens are 0 to 63 (refusal 18)"
+    /// );
+    /// # Ok::<(), herd::Error>(())
+    /// ```
+    pub fn judge_stay(&self, stay: impl Into<Stay>) -> Result<(), Error> {
+        self.judge_stay_at(0, stay.into())
+    }
+
     /// Adds one contact.
     ///
     /// Many contacts are added sooner by [`extend`](Herd::extend): each call checks the whole table.
@@ -202,12 +244,11 @@ impl Herd {
         self.load(log)
     }
 
-    /// Loads a log without its end word that has the herd's opening and all its contacts, and says how many are new.
+    /// Loads a log without its end word that has the herd's opening and all its contacts, and says how many are new. The
+    /// engine loads a log soonest in log order, and an end word can count all contacts where none comes twice.
     fn load(&mut self, mut log: Vec<u32>) -> Result<usize, Error> {
-        if log.len() - 1 > words::MOST_LOGGED {
-            log[1..].sort_unstable();
-            log.dedup();
-        }
+        log[1..].sort_unstable_by_key(|&word| words::log_order(word));
+        log.dedup();
         log.push(words::end_word(log.len() - 1));
         match calls::read_log(&log, &mut self.table) {
             calls::Read::Contacts(all) => {
@@ -619,35 +660,19 @@ impl Herd {
 
     /// Why the engine refused a list of stays: the first of them that is none of the herd's.
     fn stay_refused(&self, stays: &[Stay]) -> Error {
-        let judged = stays.iter().map(|&stay| self.judge_stay(stay).err());
-        let wrong = judged
-            .enumerate()
-            .find_map(|(place, reason)| Some((place, reason?)));
-        wrong.map_or(Error::Damaged(18), |(place, reason)| Error::Stay {
-            place,
-            stay: stays[place],
-            reason: Box::new(reason),
-        })
+        let mut judged = stays.iter().enumerate();
+        let wrong = judged.find_map(|(place, &stay)| self.judge_stay_at(place, stay).err());
+        wrong.unwrap_or(Error::Damaged(18))
     }
 
-    /// Whether a stay is of the herd's animals and ticks, and in a pen.
-    fn judge_stay(&self, stay: Stay) -> Result<(), Error> {
-        let Stay {
-            animal,
-            pen,
-            first,
-            last,
-        } = stay;
-        self.opening.judge_animal(animal)?;
-        if pen > LAST_PEN {
-            return Err(Error::NoSuchPen(pen));
-        }
-        self.opening.judge_tick(first)?;
-        self.opening.judge_tick(last)?;
-        if first > last {
-            return Err(Error::TurnedRound { first, last });
-        }
-        Ok(())
+    /// Whether the stay at this place of a list is of the herd's animals and ticks, and in a pen.
+    fn judge_stay_at(&self, place: usize, stay: Stay) -> Result<(), Error> {
+        let wrong = |reason| Error::Stay {
+            place,
+            stay,
+            reason: Box::new(reason),
+        };
+        self.opening.judge_stay(stay).map_err(wrong)
     }
 }
 

@@ -102,7 +102,7 @@ impl fmt::Display for Interval {
     }
 }
 
-/// A record of a gate reader: the animal was in the pen from the first tick to the last.
+/// A record of a gate reader: the animal was in the pen from the first tick to the last. Stays are ordered by their numbers.
 ///
 /// ```
 /// use herd::Stay;
@@ -113,7 +113,7 @@ impl fmt::Display for Interval {
 /// assert_eq!(Stay::words(&[stay, stay]), [7, 63, 1, 4, 7, 63, 1, 4]);
 /// ```
 #[repr(C)]
-#[derive(Clone, Copy, Debug, PartialEq, Eq, Hash)]
+#[derive(Clone, Copy, Debug, PartialEq, Eq, PartialOrd, Ord, Hash)]
 pub struct Stay {
     /// The animal.
     pub animal: u32,

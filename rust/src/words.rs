@@ -1,11 +1,11 @@
 //! Openings, contacts and rows as words of 32 bits. A contact is packed only where it was judged.
 
-use crate::{Contact, Error, Interval};
+use crate::{Contact, Error, Interval, Stay};
 
 /// The most contacts that an end word can count.
 pub const MOST_LOGGED: usize = (1 << 26) - 1;
 /// The last pen; the first is 0.
-pub const LAST_PEN: u32 = 63;
+const LAST_PEN: u32 = 63;
 
 /// Animals, ticks and carry time.
 #[derive(Clone, Copy, Debug, PartialEq, Eq)]
@@ -77,6 +77,21 @@ impl Opening {
         }
     }
 
+    /// Whether the stay is of these animals and ticks, and in a pen.
+    pub fn judge_stay(self, stay: Stay) -> Result<(), Error> {
+        let (first, last) = (stay.first, stay.last);
+        self.judge_animal(stay.animal)?;
+        if stay.pen > LAST_PEN {
+            return Err(Error::NoSuchPen(stay.pen));
+        }
+        self.judge_tick(first)?;
+        self.judge_tick(last)?;
+        if first > last {
+            return Err(Error::TurnedRound { first, last });
+        }
+        Ok(())
+    }
+
     /// The word of a contact, or why it has none.
     pub fn contact_word(self, contact: Contact) -> Result<u32, Error> {
         match self.judge(contact) {
@@ -101,6 +116,11 @@ pub fn contact_of(word: u32) -> Contact {
         field(word, 10, 8),
         field(word, 0, 10) + 1,
     )
+}
+
+/// A number by which contact words are in log order: the tick, then the animal left, then the animal met.
+pub fn log_order(word: u32) -> u32 {
+    field(word, 0, 10) << 16 | field(word, 10, 16)
 }
 
 /// The word that ends a log of so many contacts, at most [`MOST_LOGGED`].

@@ -20,6 +20,7 @@ pub mod model;
 pub mod program;
 pub mod random;
 pub mod rule;
+pub mod season;
 pub mod sheet;
 pub mod suite;
 pub mod words;
