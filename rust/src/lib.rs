@@ -36,6 +36,8 @@
 //! work on words that the caller lends. What is here above it is plain Rust, compared by running with a search over
 //! contacts: it finds the sizes, packs contacts that it has judged, and puts refusals into words.
 
+#![deny(missing_docs)]
+
 pub mod calls;
 mod error;
 mod herd;

@@ -4,7 +4,7 @@
 //! four of them are seen by both. A meeting is two contacts. Readers send some lines twice, and in no order.
 
 use crate::random::Random;
-use crate::words::{Contact, Stay};
+use crate::words::Contact;
 use std::fmt::Write;
 use std::fs;
 use std::io;
@@ -94,19 +94,18 @@ impl Yard {
     }
 }
 
-/// What the reader at the gate of the calving pens noted: animal, pen, first tick, last tick.
+/// What the reader at the gate of the calving pens noted of five visits by three animals each: animal, pen, first tick, last
+/// tick.
 fn gate(random: &mut Random) -> String {
     let mut text = String::from("# animal, pen, first tick, last tick\n");
-    for _ in 0..12 {
-        let first = random.between(1, TICKS - 4);
-        let animal = random.between(0, ANIMALS - 1);
-        let pen = random.between(0, 2);
-        let stay = Stay::new(animal, pen, first, first + random.between(1, 4));
-        let _ = writeln!(
-            text,
-            "{}, {}, {}, {}",
-            stay.animal, stay.pen, stay.first, stay.last
-        );
+    for _ in 0..5 {
+        let (pen, visit) = (random.between(0, 63), random.between(1, TICKS - 8));
+        for _ in 0..3 {
+            let animal = random.between(0, ANIMALS - 1);
+            let first = visit + random.between(0, 3);
+            let last = first + random.between(0, 3);
+            let _ = writeln!(text, "{animal}, {pen}, {first}, {last}");
+        }
     }
     text
 }
