@@ -10,8 +10,9 @@
 //!
 //! A **window** `first..=last` asks about the journeys whose contacts all lie at these ticks. **Yes** means that such a
 //! journey is among the contacts held, and a [chain](Herd::chain) of contacts shows it. **No** means that there is none:
-//! the animal cannot have been reached by the contacts held, whatever else the readers missed. The answers do not depend
-//! on the order in which contacts came. What cannot be done is an [`Error`] with its reason, and then nothing has changed.
+//! by the contacts held the animal cannot have been reached; of contacts that no reader noted it says nothing. The answers
+//! do not depend on the order in which contacts came. What cannot be done is an [`Error`] with its reason, and then nothing
+//! has changed.
 //!
 //! A herd has at most 256 animals and 1,024 ticks, and its carry time is at most 256. It holds every contact of its animals
 //! and ticks: there is no further limit. It owns a table of 1 + n·n·(τ+1) words of four bytes for n animals and τ ticks (15

@@ -11,6 +11,7 @@ mod growth;
 mod joining;
 mod loading;
 mod page;
+mod readers;
 mod removing;
 mod rows;
 mod staying;
@@ -22,6 +23,7 @@ use asking::Asking;
 use joining::Joining;
 use loading::Loading;
 use page::Goal;
+use readers::Readers;
 use removing::Removing;
 use staying::Staying;
 use workloads::Workload;
@@ -52,6 +54,8 @@ const STAYS: usize = 5_000;
 const LOADS: f64 = 1.3;
 /// The same in reads of the table.
 const REMOVING: Goal = Goal::AtMost(6.0);
+/// Loading a reader file by the program over the engine's load of that log.
+const READERS: Goal = Goal::AtMost(2.0);
 
 fn main() {
     println!("A time is the shortest lap of turns that last 50 ms or more together, and all peers take turns.");
@@ -62,6 +66,7 @@ fn main() {
     print_joins(&workloads);
     print_stays();
     print_removals(&workloads);
+    print_readers();
     growth::print();
 }
 
@@ -205,5 +210,28 @@ fn print_removals(workloads: &[Workload]) {
             page::number(times.remove / times.load),
         ];
         page::line(workload.name, &cells);
+    }
+}
+
+/// Prints what loading a reader file by the program takes beside the engine's load of the log with the same lines.
+fn print_readers() {
+    let lines = readers::LINES;
+    page::head(
+        &format!("Loading a reader file of {lines} lines by the program, from its start to its end: over the engine's load of that log"),
+        &["lines' order", "sorted log"],
+    );
+    page::goals(&[READERS, READERS]);
+    for workload in workloads::readers(lines) {
+        let name = workload.name;
+        let Some(readers) = Readers::new(workload) else {
+            println!("the program herd is not built: cargo build --release comes before");
+            return;
+        };
+        let times = readers.run();
+        let cells = [
+            READERS.judged(times.program / times.engine),
+            READERS.judged(times.program / times.sorted),
+        ];
+        page::line(name, &cells);
     }
 }

@@ -85,6 +85,16 @@ pub fn largest(contacts: usize) -> Workload {
     Workload::drawn("largest table", Opening::new(256, 1024, 2), contacts)
 }
 
+/// So many contacts of four tables, for reader files.
+pub fn readers(lines: usize) -> Vec<Workload> {
+    vec![
+        Workload::drawn("24 animals, 256 ticks", Opening::new(24, 256, 3), lines),
+        Workload::drawn("60 animals, 1024 ticks", Opening::new(60, 1024, 4), lines),
+        Workload::drawn("128 animals, 512 ticks", SEASON_OPENING, lines),
+        Workload::drawn("largest table", Opening::new(256, 1024, 2), lines),
+    ]
+}
+
 /// So many stays of a season, each in any pen.
 pub fn stays(number: usize) -> Vec<Stay> {
     let mut random = Random::new(SEED);
