@@ -46,7 +46,7 @@ impl Program {
 
     /// Starts it on this input.
     fn start(self, input: Stdio) -> Child {
-        let folder = Path::new(env!("CARGO_MANIFEST_DIR")).join("../target/bin");
+        let folder = Path::new(env!("CARGO_MANIFEST_DIR")).join("../../target/bin");
         let path: PathBuf = folder.join(self.name);
         let mut program = Command::new(&path);
         program.stdin(input).stdout(Stdio::piped());
