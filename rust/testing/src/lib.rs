@@ -8,6 +8,7 @@
 //! - `sheet` says what the printing program writes; `program` runs a proved program.
 //! - `words` is the layout of words; `cases` and `random` make cases; `compare` compares words; `guard` is memory between
 //!   pages that cannot be read or written.
+//! - `season` makes the files of the example season; `xml` reads the text of a picture.
 
 pub mod calls;
 pub mod cases;
@@ -24,3 +25,4 @@ pub mod season;
 pub mod sheet;
 pub mod suite;
 pub mod words;
+pub mod xml;

@@ -1,9 +1,11 @@
 //! The words behind a command's name, taken apart into options and operands.
 
 use crate::failure::Failure;
+use crate::files::is_standard;
 use std::collections::BTreeMap;
 use std::ffi::{OsStr, OsString};
 use std::fs;
+use std::os::unix::ffi::OsStrExt;
 use std::path::{Path, PathBuf};
 
 /// An option of a command: `--first F`, `--skip-bad`.
@@ -68,7 +70,7 @@ impl Given {
         while let Some(word) = words.next() {
             if word == "--" {
                 given.operands.extend(words.by_ref().cloned());
-            } else if word == "-" || !word.as_encoded_bytes().starts_with(b"-") {
+            } else if word == "-" || !word.as_bytes().starts_with(b"-") {
                 given.operands.push(word.clone());
             } else {
                 given.take(choices, word, &mut words)?;
@@ -88,17 +90,20 @@ impl Given {
         word: &OsStr,
         words: &mut impl Iterator<Item = &'a OsString>,
     ) -> Result<(), Failure> {
-        let Some(text) = word.to_str() else {
-            return Err(self.wrong(format!("there is no option {}", word.to_string_lossy())));
-        };
-        let (name, joined) = split(text);
+        let (name, joined) = split(word);
+        let name = &*name.to_string_lossy();
         let Some(choice) = choices.iter().find(|c| c.long == name || c.short == name) else {
-            return Err(self.wrong(unknown(choices, name)));
+            let shown = if name.starts_with("--") {
+                name
+            } else {
+                &word.to_string_lossy()
+            };
+            return Err(self.wrong(unknown(choices, shown)));
         };
         let value = match (choice.takes, joined) {
             (false, None) => OsString::new(),
             (false, Some(_)) => return Err(self.wrong(format!("{name} takes no value"))),
-            (true, Some(value)) => OsString::from(value),
+            (true, Some(value)) => value.to_os_string(),
             (true, None) => match words.next() {
                 Some(value) => value.clone(),
                 None => return Err(self.wrong(format!("{name} needs a value"))),
@@ -170,10 +175,11 @@ impl Given {
 
     /// Refuses an output that would take the place of one of the inputs.
     pub fn keep_inputs(&self, output: &Path, inputs: &[PathBuf]) -> Result<(), Failure> {
-        let Ok(output) = fs::canonicalize(output) else {
+        let file = |path: &Path| fs::canonicalize(path).ok().filter(|_| !is_standard(path));
+        let Some(output) = file(output) else {
             return Ok(());
         };
-        let same = |input: &&PathBuf| fs::canonicalize(input).is_ok_and(|input| input == output);
+        let same = |input: &&PathBuf| file(input).is_some_and(|input| input == output);
         match inputs.iter().find(same) {
             Some(input) => Err(self.wrong(format!("{} would be overwritten", input.display()))),
             None => Ok(()),
@@ -189,17 +195,18 @@ impl Given {
     }
 }
 
-/// The name of an option, and the value that is joined to it, if any.
-fn split(word: &str) -> (&str, Option<&str>) {
-    if word.starts_with("--") {
-        return match word.split_once('=') {
-            Some((name, value)) => (name, Some(value)),
-            None => (word, None),
-        };
-    }
-    let end = word.char_indices().nth(2).map_or(word.len(), |(at, _)| at);
-    let (name, value) = word.split_at(end);
-    (name, Some(value).filter(|value| !value.is_empty()))
+/// The name of an option, and the value that is joined to it, if any. A value may be of any bytes.
+fn split(word: &OsStr) -> (&OsStr, Option<&OsStr>) {
+    let bytes = word.as_bytes();
+    let (name, value) = if bytes.starts_with(b"--") {
+        let equals = bytes.iter().position(|&byte| byte == b'=');
+        let (name, value) = bytes.split_at(equals.unwrap_or(bytes.len()));
+        (name, equals.map(|_| &value[1..]))
+    } else {
+        let (name, value) = bytes.split_at(2);
+        (name, Some(value).filter(|value| !value.is_empty()))
+    };
+    (OsStr::from_bytes(name), value.map(OsStr::from_bytes))
 }
 
 /// What is said of an option that there is not.

@@ -9,11 +9,25 @@ use std::io::Write;
 use std::ops::RangeInclusive;
 use std::path::Path;
 
-/// The window that is asked about: all ticks where its ends are not given.
-pub fn window(given: &Given, herd: &Herd) -> Result<RangeInclusive<u32>, Failure> {
-    let first = given.number("--first")?.unwrap_or(1);
-    let last = given.number("--last")?.unwrap_or(herd.ticks());
-    Ok(first..=last)
+/// The ends of the window that is asked about, where they are given.
+pub struct Ends {
+    first: Option<u32>,
+    last: Option<u32>,
+}
+
+impl Ends {
+    /// What a command is given of them.
+    pub fn new(given: &Given) -> Result<Ends, Failure> {
+        Ok(Ends {
+            first: given.number("--first")?,
+            last: given.number("--last")?,
+        })
+    }
+
+    /// The window; an end that is not given is that of the calendar.
+    pub fn window(&self, herd: &Herd) -> RangeInclusive<u32> {
+        self.first.unwrap_or(1)..=self.last.unwrap_or(herd.ticks())
+    }
 }
 
 /// Answers whether one animal can have reached another: yes with its chain, or no.
@@ -23,8 +37,9 @@ pub fn ask(given: &Given) -> Result<(), Failure> {
         given.read_number("FROM", from)?,
         given.read_number("TO", to)?,
     );
+    let ends = Ends::new(given)?;
     let herd = files::read_log(Path::new(log))?;
-    let window = window(given, &herd)?;
+    let window = ends.window(&herd);
     let (first, last) = (*window.start(), *window.end());
     let by = format!("by contacts from tick {first} to tick {last}");
     let text = match herd.chain(from, to, window).map_err(Failure::refused)? {

@@ -1,5 +1,6 @@
 //! Why the program ends without having done what it was asked.
 
+use crate::files::is_standard;
 use herd::Error;
 use std::fmt::Display;
 use std::io;
@@ -49,7 +50,7 @@ impl Failure {
 
 /// How a file is called in a message.
 pub fn name(path: &Path) -> String {
-    if path == Path::new("-") {
+    if is_standard(path) {
         "standard input".to_string()
     } else {
         path.display().to_string()

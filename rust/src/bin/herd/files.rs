@@ -7,12 +7,14 @@ use std::io::{self, BufWriter, Write};
 use std::path::{Path, PathBuf};
 use std::process;
 
-/// The name that stands for standard input or output.
-const STANDARD: &str = "-";
+/// Whether a path stands for standard input or output.
+pub fn is_standard(path: &Path) -> bool {
+    path == Path::new("-")
+}
 
 /// The herd of a log; `-` is standard input.
 pub fn read_log(path: &Path) -> Result<Herd, Failure> {
-    let read = if path == Path::new(STANDARD) {
+    let read = if is_standard(path) {
         Herd::read_log(io::stdin().lock())
     } else {
         let file = File::open(path).map_err(|error| Failure::io(path, &error))?;
@@ -29,7 +31,7 @@ pub fn write_log(herd: &Herd, path: &Path, told: &str) -> Result<(), Failure> {
     let (carry, held) = (herd.carry(), counted(herd.held(), "contact"));
     let ticks = counted(ticks as usize, "tick");
     let about = format!("{animals}, {ticks}, carry time {carry}, {held}");
-    if path == Path::new(STANDARD) {
+    if is_standard(path) {
         let text = format!("{told}\nstandard output: {about}\n");
         let _ = io::stderr().write_all(text.as_bytes());
         return Ok(());
@@ -51,9 +53,8 @@ pub fn write(
     path: &Path,
     content: impl FnOnce(&mut dyn Write) -> Result<(), Error>,
 ) -> Result<(), Failure> {
-    if path == Path::new(STANDARD) {
-        let mut output = BufWriter::new(io::stdout().lock());
-        return content(&mut output).map_err(|error| match error {
+    if is_standard(path) {
+        return put(io::stdout().lock(), content).map_err(|error| match error {
             Error::Io(error) => Failure::output(&error),
             error => Failure::refused(error),
         });
@@ -71,9 +72,12 @@ pub fn write(
     written.map_err(|error| Failure::about(path, &error))
 }
 
-/// Writes to an open file.
-fn put(file: File, content: impl FnOnce(&mut dyn Write) -> Result<(), Error>) -> Result<(), Error> {
-    let mut output = BufWriter::new(file);
+/// Writes to an output that is open, to its end.
+fn put(
+    output: impl Write,
+    content: impl FnOnce(&mut dyn Write) -> Result<(), Error>,
+) -> Result<(), Error> {
+    let mut output = BufWriter::new(output);
     content(&mut output)?;
     Ok(output.flush()?)
 }

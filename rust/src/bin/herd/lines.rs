@@ -1,7 +1,7 @@
 //! Text files with one record to a line: numbers between spaces or commas, and comments behind `#`.
 
 use crate::failure::{self, Failure};
-use crate::files::counted;
+use crate::files::{counted, is_standard};
 use crate::progress::Progress;
 use std::fs::File;
 use std::io::{self, BufRead, BufReader, Read, Write};
@@ -122,7 +122,7 @@ impl<T: Ord> Records<T> {
 
 /// Calls `take` with the number and the bytes of each line; `-` is standard input.
 fn each_line(path: &Path, take: impl FnMut(usize, &[u8])) -> Result<(), Failure> {
-    let read = if path == Path::new("-") {
+    let read = if is_standard(path) {
         lines_of(io::stdin().lock(), take)
     } else {
         File::open(path).and_then(|file| {

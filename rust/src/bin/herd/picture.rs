@@ -15,7 +15,7 @@ const NUMBERS_APART: f64 = 44.0;
 /// The room to the left of the ticks, for the numbers of the animals.
 const LEFT: f64 = 96.0;
 /// The room to the right of the ticks, for the end that each animal was found by.
-const RIGHT: f64 = 120.0;
+const RIGHT: f64 = 144.0;
 /// The room above the lanes, for the title and the axis.
 const TOP: f64 = 84.0;
 /// The room below the lanes, for the axis and the legend.

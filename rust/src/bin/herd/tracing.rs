@@ -1,7 +1,7 @@
 //! `herd trace` and `herd back`: an animal traced through the whole herd.
 
 use crate::arguments::Given;
-use crate::asking::window;
+use crate::asking::Ends;
 use crate::failure::Failure;
 use crate::files::{self, counted};
 use crate::picture::Picture;
@@ -33,12 +33,13 @@ pub fn back(given: &Given) -> Result<(), Failure> {
 fn traced(given: &Given, way: Way) -> Result<(), Failure> {
     let [log, animal] = given.operands(["LOG", "ANIMAL"])?;
     let animal = given.read_number("ANIMAL", animal)?;
+    let ends = Ends::new(given)?;
     let svg = given.path("--svg");
     if let Some(path) = &svg {
         given.keep_inputs(path, &[PathBuf::from(log)])?;
     }
     let herd = files::read_log(Path::new(log))?;
-    let window = window(given, &herd)?;
+    let window = ends.window(&herd);
     let found = match way {
         Way::Forward => herd.trace(animal, window.clone()),
         Way::Back => herd.trace_back(animal, window.clone()),
@@ -56,7 +57,7 @@ fn traced(given: &Given, way: Way) -> Result<(), Failure> {
         };
         let text = picture.draw();
         files::write(&path, |output| Ok(output.write_all(text.as_bytes())?))?;
-        if path == Path::new("-") {
+        if files::is_standard(&path) {
             return Ok(());
         }
     }
