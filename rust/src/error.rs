@@ -123,8 +123,8 @@ pub enum Error {
         /// How many words of four bytes were asked for.
         words: usize,
     },
-    /// The engine refused words that are the library's own, with this number. It means that memory was changed from outside:
-    /// do not trust the herd any more.
+    /// The engine refused words that are the library's own, with this number, or, where it is 0, gave an answer that cannot
+    /// be. It means that memory was changed from outside: do not trust the herd any more.
     Damaged(u32),
 }
 
@@ -148,7 +148,7 @@ impl Error {
             Error::TurnedRound { .. } => Some(19),
             Error::NotHeld(_) => Some(21),
             Error::Contact { reason, .. } => reason.number(),
-            Error::Damaged(number) => Some(*number),
+            Error::Damaged(number) => Some(*number).filter(|&number| number > 0),
             Error::NotWholeWords { .. }
             | Error::LogTooLong
             | Error::Io(_)

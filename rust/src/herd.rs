@@ -28,6 +28,8 @@ pub enum Added {
 /// A herd is opened for so many animals, ticks and a carry time, and holds contacts, each at most once. In which order they
 /// came does not matter: two herds are equal exactly when they are opened alike and hold the same contacts.
 ///
+/// Beside the errors that a method names, any of them can give [`Error::Memory`] and [`Error::Damaged`].
+///
 /// ```
 /// use herd::{Contact, Herd, Interval};
 ///
@@ -207,8 +209,8 @@ impl Herd {
 
     /// Adds all contacts, in any order and with repeats, and says how many of them were not held before.
     ///
-    /// They are loaded together, as a log is, which takes about as long as a few checks of the table and one step for each
-    /// contact and animal.
+    /// They are loaded together with those that are held, as a log is: this takes a few passes over the table, and for each
+    /// contact a step for each animal.
     ///
     /// # Errors
     ///
@@ -260,6 +262,8 @@ impl Herd {
     }
 
     /// Takes one contact out again. The herd is then as if it had never been added.
+    ///
+    /// The contacts left are loaded again, and a second table is taken for the time of the call.
     ///
     /// # Errors
     ///
@@ -348,10 +352,6 @@ impl Herd {
     }
 
     /// The contacts that the herd holds, each once, in log order: by tick, then by the animal left, then by the animal met.
-    ///
-    /// # Errors
-    ///
-    /// None but [`Error::Damaged`] and [`Error::Memory`].
     ///
     /// ```
     /// use herd::{Contact, Herd};

@@ -15,7 +15,8 @@ impl Herd {
     /// Reads a log: opens the herd as its first word says, and adds every contact of it. The log may be of any order, with
     /// repeats. It carries no checksum: a log whose contacts were changed to others is read without a word.
     ///
-    /// Wrap a file in nothing: it is read in large pieces.
+    /// The input is read in large pieces, so that a file needs no buffer around it. The first word says how large the table
+    /// is, up to 269 million bytes, which are taken before the rest is judged.
     ///
     /// # Errors
     ///
@@ -77,7 +78,8 @@ impl Herd {
     }
 }
 
-/// The words of all bytes; where there are any, the first is an opening word. No more is read than the longest log has.
+/// The words of all bytes; where there are any, the first is an opening word. At most a piece more is read than the longest
+/// log has.
 fn words_from(mut input: impl Read) -> Result<Vec<u32>, Error> {
     let mut words: Vec<u32> = Vec::new();
     let mut piece = vec![0; PIECE];

@@ -95,7 +95,7 @@ fn herds_without_contacts_are_equal_exactly_when_opened_alike() {
 #[test]
 fn a_copy_is_apart_from_its_herd() {
     let mut random = Random::new(2_502);
-    let mut changed = 0;
+    let mut met = Met::default();
     for _ in 0..300 {
         let opening = cases::opening_with_pairs(&mut random);
         let contacts: Contacts = draws::contacts(&mut random, opening).into_iter().collect();
@@ -103,16 +103,17 @@ fn a_copy_is_apart_from_its_herd() {
         let mut copy = herd.clone();
         assert_eq!(copy, herd);
         let contact = cases::contact(&mut random, opening);
-        if contacts.contains(&contact) {
+        let held = contacts.contains(&contact);
+        met.yes_or_no("held", held);
+        if held {
             copy.remove(contact).unwrap();
         } else {
             let _ = copy.add(contact).unwrap();
         }
         assert_ne!(copy, herd, "{opening:?} {contact:?}");
         assert_eq!(herd, extended(opening, &Vec::from_iter(contacts)));
-        changed += 1;
     }
-    assert_eq!(changed, 300);
+    met.answers(30, "held", &["yes", "no"]);
 }
 
 #[test]

@@ -3,6 +3,7 @@
 use herd::{Contact, Error, Stay};
 use herd_testing::words::{Opening, LAST_PEN};
 use std::fmt::Debug;
+use std::io::ErrorKind;
 
 /// What is wrong with one or two animals, if anything.
 pub fn of_animals(opening: Opening, numbers: &[u32]) -> Option<Error> {
@@ -77,6 +78,14 @@ pub fn same(found: &Error, expected: &Error, case: impl Debug) {
     );
     assert_eq!(found.number(), expected.number(), "{case:?}: {found}");
     is_said(found);
+}
+
+/// Fails unless the error is that of a reader or writer, of this kind and without a number, and says it in words.
+#[track_caller]
+pub fn is_io(error: &Error, kind: ErrorKind) {
+    let of_kind = matches!(error, Error::Io(io) if io.kind() == kind);
+    assert!(of_kind && error.number().is_none(), "{error:?}");
+    is_said(error);
 }
 
 /// Fails unless the error's text has all that it must name, and ends with the number of the refusal, if it has one.

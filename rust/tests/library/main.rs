@@ -18,6 +18,7 @@ mod traces;
 mod writers;
 
 use herd::Herd;
+use herd_testing::cases;
 use herd_testing::model::Contacts;
 use herd_testing::random::Random;
 use herd_testing::words::{self, Contact, Opening, Window};
@@ -72,6 +73,6 @@ fn range(window: Window) -> RangeInclusive<u32> {
 
 /// Every ordered pair of different animals.
 fn pairs(opening: Opening) -> Vec<(u32, u32)> {
-    let two = herd_testing::cases::every_two(0, opening.animals - 1);
+    let two = cases::every_two(0, opening.animals - 1);
     two.filter(|(u, v)| u != v).collect()
 }

@@ -9,7 +9,7 @@ use herd_testing::random::Random;
 use herd_testing::suite::draws;
 use herd_testing::words::{Opening, Window};
 
-/// The questions about an interval, and those about a window.
+/// What a journey told can be of: its interval by earliest and latest, its contacts by a chain.
 const INTERVALS: [&str; 3] = ["none", "one contact", "several contacts"];
 
 /// Asks every question that there is about every pair, tick and window.

@@ -108,16 +108,16 @@ fn every_error_with_a_number_says_it_and_what_it_names() {
 
 #[test]
 fn every_error_without_a_number_says_what_it_names() {
-    let broken = io::Error::new(io::ErrorKind::BrokenPipe, "the pipe is broken");
     for error in [
         Error::NotWholeWords { bytes: 1 << 40 },
         Error::LogTooLong,
-        Error::from(broken),
         Error::Memory { words: 67_174_401 },
     ] {
         assert_eq!(error.number(), None, "{error:?}");
         faults::is_said(&error);
-        let is_io = matches!(&error, Error::Io(io) if io.kind() == io::ErrorKind::BrokenPipe);
-        assert_eq!(error.to_string() == "the pipe is broken", is_io, "{error}");
     }
+    let kind = io::ErrorKind::BrokenPipe;
+    let error = Error::from(io::Error::new(kind, "the pipe is broken"));
+    faults::is_io(&error, kind);
+    assert_eq!(error.to_string(), "the pipe is broken");
 }

@@ -11,8 +11,8 @@ use herd_testing::suite::draws;
 use herd_testing::words::{self, Window};
 use std::cmp::Reverse;
 
-/// The window without the ticks before and after which a journey from one animal to another one is not cut off: first as
-/// early an end as can be, then as late a beginning.
+/// The narrowest window around a journey of the pair that fits the window: its last tick is as early as can be, and then
+/// its first as late as can be.
 fn soonest(asked: &Asked, (u, v): (u32, u32), window: Window) -> Option<Window> {
     let reaches = |first, last| asked.journeys.reaches(u, v, Window::new(first, last));
     let last = range(window).find(|&last| reaches(window.first, last))?;
@@ -22,7 +22,7 @@ fn soonest(asked: &Asked, (u, v): (u32, u32), window: Window) -> Option<Window> 
     Some(Window::new(first, last))
 }
 
-/// As `soonest`, but first as late a beginning as can be, then as early an end.
+/// The same, but its first tick is as late as can be, and then its last as early as can be.
 fn latest(asked: &Asked, (u, v): (u32, u32), window: Window) -> Option<Window> {
     let reaches = |first, last| asked.journeys.reaches(u, v, Window::new(first, last));
     let first = range(window)
@@ -32,7 +32,7 @@ fn latest(asked: &Asked, (u, v): (u32, u32), window: Window) -> Option<Window> {
     Some(Window::new(first, last))
 }
 
-/// The animal with the interval of the journeys that the window is cut to, and this chain.
+/// The animal found, with the interval of the journeys in the narrowest window, and this chain.
 fn found(asked: &Asked, animal: u32, cut: Window, chain: Option<Vec<Contact>>) -> Traced {
     Traced {
         animal,

@@ -2,7 +2,7 @@
 
 use crate::readers::KINDS;
 use crate::{bytes, extended, faults};
-use herd::{Contact, Error, Herd};
+use herd::{Contact, Herd};
 use herd_testing::cases;
 use herd_testing::random::Random;
 use herd_testing::words::{self, Opening};
@@ -106,11 +106,7 @@ fn writers_that_fail() {
                 (sink.room, sink.full) = (room, full);
                 let error = herd.write_log(&mut sink).unwrap_err();
                 let kind = full.unwrap_or(ErrorKind::WriteZero);
-                assert!(
-                    matches!(&error, Error::Io(error) if error.kind() == kind),
-                    "{error:?}"
-                );
-                faults::is_said(&error);
+                faults::is_io(&error, kind);
                 assert!(sink.taken == log[..room], "{room}");
                 failed += 1;
             }
@@ -119,10 +115,7 @@ fn writers_that_fail() {
             let mut sink = Sink::new(1000);
             sink.flush = Some(kind);
             let error = herd.write_log(&mut sink).unwrap_err();
-            assert!(
-                matches!(&error, Error::Io(error) if error.kind() == kind),
-                "{error:?}"
-            );
+            faults::is_io(&error, kind);
             assert!(sink.taken == log);
             failed += 1;
         }

@@ -255,8 +255,8 @@ fn millions_of_repeats() {
     let opening = Opening::new(5, 9, 2);
     let herd = Herd::new(opening, cases::following_contacts(&mut random, opening, 60));
     let listed = herd.listed();
-    let (first, others) = listed.split_first().expect("a contact");
-    let mut text = told::line(first);
+    let (once, others) = listed.split_last().expect("a contact");
+    let mut text = told::line(once);
     let number = (1 << 22) + 12_345;
     for place in 1..number {
         text += &told::line(&others[place * 7 % others.len()]);

@@ -87,6 +87,56 @@ fn questions_out_of_range() {
     met.at_least(&[("ask 8", 20)]);
 }
 
+/// Calls that are refused, each with the parts of what is told, of which the last is the number.
+const SAID: [(&str, &[&str]); 16] = [
+    ("ask herd.log 4 1", &["no animal 4", "0 to 3", "7"]),
+    ("ask herd.log 2 2", &["animal 2", "twice", "8"]),
+    ("ask herd.log 0 1 --last 7", &["tick 7", "1 to 6", "9"]),
+    ("ask herd.log 0 1 --first 0", &["tick 0", "1 to 6", "9"]),
+    (
+        "ask herd.log 0 1 --first 5 --last 2",
+        &["turned round", "5", "2", "19"],
+    ),
+    ("trace herd.log 258", &["no animal 258", "7"]),
+    ("back herd.log 4294967295", &["no animal 4294967295", "7"]),
+    (
+        "remove herd.log 0 1 3 -o x",
+        &["herd.log", "0 -> 1 at tick 3", "not held", "21"],
+    ),
+    (
+        "remove herd.log 0 4 3 -o x",
+        &["herd.log", "0 -> 4 at tick 3", "no animal 4", "7"],
+    ),
+    (
+        "remove herd.log 0 1 7 -o x",
+        &["herd.log", "0 -> 1 at tick 7", "tick 7", "9"],
+    ),
+    (
+        "join herd.log other.log -o x",
+        &["herd.log and other.log", "time 1", "time 2", "17"],
+    ),
+    (
+        "load --animals 257 --ticks 6 --carry 1 - -o x",
+        &["256 animals", "257", "1"],
+    ),
+    (
+        "load --animals 0 --ticks 6 --carry 1 - -o x",
+        &["256 animals", "not 0", "1"],
+    ),
+    (
+        "load --animals 4 --ticks 1025 --carry 1 - -o x",
+        &["1024 ticks", "1025", "2"],
+    ),
+    (
+        "load --animals 4 --ticks 6 --carry 257 - -o x",
+        &["256 ticks", "257", "3"],
+    ),
+    (
+        "load --animals 0 --ticks 0 --carry 0 - -o x",
+        &["256 animals", "1"],
+    ),
+];
+
 #[test]
 fn refusals_say_what_is_wrong() {
     let folder = Folder::new("refusals_say_what_is_wrong");
@@ -94,54 +144,7 @@ fn refusals_say_what_is_wrong() {
     let herd = Herd::new(opening, [Contact::new(0, 1, 2)]);
     folder.put("herd.log", herd.log());
     folder.put("other.log", Herd::new(Opening::new(4, 6, 2), []).log());
-    for (call, parts) in [
-        ("ask herd.log 4 1", &["no animal 4", "0 to 3", "7"][..]),
-        ("ask herd.log 2 2", &["animal 2", "twice", "8"]),
-        ("ask herd.log 0 1 --last 7", &["tick 7", "1 to 6", "9"]),
-        ("ask herd.log 0 1 --first 0", &["tick 0", "1 to 6", "9"]),
-        (
-            "ask herd.log 0 1 --first 5 --last 2",
-            &["turned round", "5", "2", "19"],
-        ),
-        ("trace herd.log 258", &["no animal 258", "7"]),
-        ("back herd.log 4294967295", &["no animal 4294967295", "7"]),
-        (
-            "remove herd.log 0 1 3 -o x",
-            &["herd.log", "0 -> 1 at tick 3", "not held", "21"],
-        ),
-        (
-            "remove herd.log 0 4 3 -o x",
-            &["herd.log", "0 -> 4 at tick 3", "no animal 4", "7"],
-        ),
-        (
-            "remove herd.log 0 1 7 -o x",
-            &["herd.log", "0 -> 1 at tick 7", "tick 7", "9"],
-        ),
-        (
-            "join herd.log other.log -o x",
-            &["herd.log and other.log", "time 1", "time 2", "17"],
-        ),
-        (
-            "load --animals 257 --ticks 6 --carry 1 - -o x",
-            &["256 animals", "257", "1"],
-        ),
-        (
-            "load --animals 0 --ticks 6 --carry 1 - -o x",
-            &["256 animals", "not 0", "1"],
-        ),
-        (
-            "load --animals 4 --ticks 1025 --carry 1 - -o x",
-            &["1024 ticks", "1025", "2"],
-        ),
-        (
-            "load --animals 4 --ticks 6 --carry 257 - -o x",
-            &["256 ticks", "257", "3"],
-        ),
-        (
-            "load --animals 0 --ticks 0 --carry 0 - -o x",
-            &["256 animals", "1"],
-        ),
-    ] {
+    for (call, parts) in SAID {
         let line = folder.refusal(call);
         let refused = number(&line).map(|number| number.to_string());
         assert_eq!(refused.as_deref(), parts.last().copied(), "{call}: {line}");

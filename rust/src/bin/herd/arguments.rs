@@ -189,9 +189,11 @@ impl Given {
     /// The number of an option or operand of this name.
     pub fn read_number(&self, name: &str, value: &OsStr) -> Result<u32, Failure> {
         let text = value.to_string_lossy();
-        let digits = !text.is_empty() && text.bytes().all(|byte| byte.is_ascii_digit());
-        let number = text.parse().ok().filter(|_| digits);
-        number.ok_or_else(|| self.wrong(format!("{name} is a whole number, not '{text}'")))
+        if text.is_empty() || !text.bytes().all(|byte| byte.is_ascii_digit()) {
+            return Err(self.wrong(format!("{name} is a whole number, not '{text}'")));
+        }
+        let too_large = |_| self.wrong(format!("{name} is too large a number: '{text}'"));
+        text.parse().map_err(too_large)
     }
 }
 

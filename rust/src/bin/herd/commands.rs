@@ -96,9 +96,10 @@ pub fn run(words: &[OsString]) -> Result<(), Failure> {
     match name.to_string_lossy().as_ref() {
         "-h" | "--help" => files::print(HELP),
         "-V" | "--version" => files::print(concat!("herd ", env!("CARGO_PKG_VERSION"), "\n")),
-        "help" => match rest.first() {
+        "help" => match rest.first().map(|name| name.to_string_lossy()) {
             None => files::print(HELP),
-            Some(name) => files::print(find(&name.to_string_lossy())?.help),
+            Some(name) if ["help", "-h", "--help"].contains(&&*name) => files::print(HELP),
+            Some(name) => files::print(find(&name)?.help),
         },
         name => find(name)?.run(rest),
     }

@@ -52,9 +52,24 @@ impl Failure {
 pub fn name(path: &Path) -> String {
     if is_standard(path) {
         "standard input".to_string()
+    } else if path.as_os_str().is_empty() {
+        "''".to_string()
     } else {
-        path.display().to_string()
+        line(&path.display().to_string())
     }
+}
+
+/// A text as a line of a message: what would end the line or disturb a terminal is shown by its number.
+pub fn line(text: &str) -> String {
+    let shown = |letter: char| {
+        let disturbs = letter.is_control();
+        let number = disturbs.then(|| letter.escape_default());
+        number
+            .into_iter()
+            .flatten()
+            .chain((!disturbs).then_some(letter))
+    };
+    text.chars().flat_map(shown).collect()
 }
 
 /// The reason of the operating system without its number.

@@ -1,6 +1,6 @@
 //! Logs and other files, read and written whole.
 
-use crate::failure::Failure;
+use crate::failure::{self, Failure};
 use herd::{Error, Herd};
 use std::fs::{self, File};
 use std::io::{self, BufWriter, Write};
@@ -36,7 +36,8 @@ pub fn write_log(herd: &Herd, path: &Path, told: &str) -> Result<(), Failure> {
         let _ = io::stderr().write_all(text.as_bytes());
         return Ok(());
     }
-    print(&format!("{told}\n{}: {about}\n", path.display()))
+    let name = failure::name(path);
+    print(&format!("{told}\n{name}: {about}\n"))
 }
 
 /// Writes an answer to standard output.
@@ -102,11 +103,9 @@ fn replace(
     kept
 }
 
-/// The name of the new file while it is written.
+/// The name of the new file while it is written, which is short enough for any folder.
 fn beside(target: &Path) -> PathBuf {
-    let mut part = target.file_name().unwrap_or_default().to_os_string();
-    part.push(format!(".{}.part", process::id()));
-    target.with_file_name(part)
+    target.with_file_name(format!(".herd.{}.part", process::id()))
 }
 
 /// A number of things, in the singular or in the plural.

@@ -15,7 +15,7 @@ const SHOWN: usize = 24;
 const NAMED: usize = 20;
 /// So many records are kept before repeats among them are looked for.
 const MANY: usize = 1 << 22;
-/// The mark that some programs put before the first line of a text.
+/// The mark that some programs put before a text; where texts are put together, it stands before a later line too.
 const BYTE_ORDER_MARK: &[u8] = b"\xEF\xBB\xBF";
 
 /// What becomes of bad lines.
@@ -177,8 +177,10 @@ fn numbers<const N: usize>(line: &[u8], form: &str) -> Result<Option<[u32; N]>, 
             if word.is_empty() {
                 continue;
             }
-            let number = number(word);
-            let number = number.ok_or_else(|| format!("'{}' is no number; {form}", shown(word)))?;
+            let number = number(word).ok_or_else(|| match word.iter().all(u8::is_ascii_digit) {
+                true => format!("'{}' is too large a number; {form}", shown(word)),
+                false => format!("'{}' is no number; {form}", shown(word)),
+            })?;
             if let Some(place) = numbers.get_mut(found) {
                 *place = number;
             }

@@ -39,6 +39,7 @@ fn main() -> ExitCode {
 
 /// Writes the lines to standard error. Where that is closed there is nobody to tell.
 fn tell(lines: &[String]) {
-    let text: String = lines.iter().map(|line| format!("herd: {line}\n")).collect();
+    let line = |line: &String| format!("herd: {}\n", failure::line(line));
+    let text: String = lines.iter().map(line).collect();
     let _ = io::stderr().write_all(text.as_bytes());
 }
