@@ -17,9 +17,9 @@
 //! A herd has at most 256 animals and 1,024 ticks, and its carry time is at most 256. It holds every contact of its animals
 //! and ticks: there is no further limit. It owns a table of 1 + n·n·(τ+1) words of four bytes for n animals and τ ticks (15
 //! million bytes for 60 animals and 1,024 ticks, 269 million at the limits). Every question and every change checks the
-//! whole table first, about one pass over it, up to 14 on small tables full of intervals: ask [`Herd::reached`] once rather
-//! than [`Herd::reach`] for each animal. [`Herd::extend`] and [`Herd::remove`] also load all contacts held again: add one
-//! contact by [`Herd::add`] and many by [`Herd::extend`].
+//! whole table first, in about the time of one read of it, on small tables full of intervals of up to 30: ask
+//! [`Herd::reached`] once rather than [`Herd::reach`] for each animal. [`Herd::extend`] and [`Herd::remove`] also load all
+//! contacts held again: add one contact by [`Herd::add`] and many by [`Herd::extend`].
 //!
 //! # In five lines
 //!
