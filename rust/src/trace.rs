@@ -47,7 +47,7 @@ impl Herd {
         let mut traced = Vec::new();
         for other in self.reached(animal, window.clone())? {
             let chain = self.chain(animal, other, window.clone())?;
-            traced.extend(chain.and_then(|chain| self.traced(other, chain)));
+            traced.push(self.traced(other, chain)?);
         }
         traced.sort_by_key(|found| (found.interval.arrival, found.animal));
         Ok(traced)
@@ -88,20 +88,54 @@ impl Herd {
                 continue;
             };
             let chain = self.chain(other, animal, latest.departure..=last)?;
-            traced.extend(chain.and_then(|chain| self.traced(other, chain)));
+            traced.push(self.traced(other, chain)?);
         }
         traced.sort_by_key(|found| (Reverse(found.interval.departure), found.animal));
         Ok(traced)
     }
 
-    /// What was found of an animal, with its chain.
-    fn traced(&self, animal: u32, chain: Vec<Contact>) -> Option<Traced> {
-        let (first, last) = (chain.first()?, chain.last()?);
+    /// What was found of an animal, with its chain. An animal that is reached has one: it is never left out for want of it.
+    fn traced(&self, animal: u32, chain: Option<Vec<Contact>>) -> Result<Traced, Error> {
+        let chain = chain.unwrap_or_default();
+        let (Some(first), Some(last)) = (chain.first(), chain.last()) else {
+            return Err(Error::Damaged(0));
+        };
         let arrival = last.interval(self.carry()).arrival;
-        Some(Traced {
+        Ok(Traced {
             animal,
             interval: Interval::new(first.tick, arrival),
             chain,
         })
+    }
+}
+
+#[cfg(test)]
+mod tests {
+    use crate::words::Opening;
+    use crate::{calls, Error, Herd};
+
+    /// A herd whose table says that 0 reaches 3, but holds no contact: no calls of a herd make such a table.
+    fn without_contacts() -> Herd {
+        let opening = Opening {
+            animals: 4,
+            ticks: 6,
+            carry: 1,
+        };
+        let mut table = vec![0; opening.table_words()];
+        assert_eq!(calls::open(&mut table, 4, 6, 1), calls::Opened::Opened);
+        table[22..24].copy_from_slice(&[0xC000_0001, 0x4000_0805]);
+        Herd::over(opening, table, 0)
+    }
+
+    #[test]
+    fn an_animal_without_a_chain_is_not_left_out() {
+        let herd = without_contacts();
+        assert_eq!(herd.reached(0, 1..=6).unwrap(), [3]);
+        assert_eq!(herd.chain(0, 3, 1..=6).unwrap(), None);
+        for traced in [herd.trace(0, 1..=6), herd.trace_back(3, 1..=6)] {
+            assert!(matches!(traced, Err(Error::Damaged(0))), "{traced:?}");
+        }
+        assert_eq!(herd.trace(1, 1..=6).unwrap(), []);
+        assert_eq!(herd.trace_back(0, 1..=6).unwrap(), []);
     }
 }

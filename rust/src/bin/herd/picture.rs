@@ -49,12 +49,11 @@ struct Page {
 }
 
 impl Picture<'_> {
-    /// The text of the picture.
-    pub fn draw(&self) -> String {
+    /// The text of the picture, or nothing where some contact is of an animal that has no lane.
+    pub fn draw(&self) -> Option<String> {
         let mut svg = String::new();
-        self.write(&mut svg)
-            .expect("a text takes whatever is written");
-        svg
+        self.write(&mut svg).ok()?;
+        Some(svg)
     }
 
     /// Writes the picture.
@@ -215,7 +214,7 @@ impl Picture<'_> {
         Ok(())
     }
 
-    /// Writes an arrow for each contact of the chains, from its departure to its arrival.
+    /// Writes an arrow for each contact of the chains, from its departure to its arrival; it fails where one has no place.
     fn write_arrows(&self, svg: &mut String, page: &Page) -> fmt::Result {
         let contacts: BTreeSet<Contact> = self
             .found
@@ -224,9 +223,8 @@ impl Picture<'_> {
             .collect();
         writeln!(svg, r#"<g {}>"#, contact_stroke())?;
         for contact in contacts {
-            let (Some(from), Some(to)) = (page.place(contact.from), page.place(contact.to)) else {
-                continue;
-            };
+            let lanes = page.place(contact.from).zip(page.place(contact.to));
+            let (from, to) = lanes.ok_or(fmt::Error)?;
             let arrival = contact.interval(self.carry).arrival;
             let (x1, x2) = (page.x(contact.tick), page.x(arrival));
             let (y1, y2) = (page.y(from), page.y(to));
@@ -305,5 +303,37 @@ impl Page {
         let roomy = |step: &u32| f64::from(*step) * self.tick >= NUMBERS_APART;
         let step = steps.into_iter().find(roomy).unwrap_or(1000);
         (self.first..=self.end).filter(move |tick| tick % step == 0)
+    }
+}
+
+#[cfg(test)]
+mod tests {
+    use super::Picture;
+    use crate::tracing::Way;
+    use herd::{Contact, Interval, Traced};
+
+    #[test]
+    fn a_contact_without_a_lane_is_not_left_out() {
+        let found = |through: u32| {
+            [Traced {
+                animal: 3,
+                interval: Interval::new(2, 5),
+                chain: vec![Contact::new(0, through, 2), Contact::new(through, 3, 4)],
+            }]
+        };
+        let drawn = |found: &[Traced]| {
+            let picture = Picture {
+                way: Way::Forward,
+                animal: 0,
+                window: 1..=6,
+                carry: 1,
+                title: "a trace",
+                found,
+            };
+            picture.draw()
+        };
+        assert_eq!(drawn(&found(1)), None);
+        let svg = drawn(&found(3)).expect("a picture");
+        assert_eq!(svg.matches("class=\"contact\"").count(), 2);
     }
 }

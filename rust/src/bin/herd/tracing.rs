@@ -55,7 +55,8 @@ fn traced(given: &Given, way: Way) -> Result<(), Failure> {
             title: &title,
             found: &found,
         };
-        let text = picture.draw();
+        let undrawn = || Failure::refused("a contact of the trace has no lane; nothing was drawn");
+        let text = picture.draw().ok_or_else(undrawn)?;
         files::write(&path, |output| Ok(output.write_all(text.as_bytes())?))?;
         if files::is_standard(&path) {
             return Ok(());
