@@ -13,40 +13,26 @@
  * and writes the words lent to it and no others, and keeps none of the pointers.
  *
  * Tables. The length of a table for n animals is 1 + n*n*(ticks+1) words. herd_open and
- * herd_read_log write a table whatever its words were, and so does herd_carry_over with the new one;
- * all other calls take one that is open.
+ * herd_read_log write a table whatever its words were; all other calls take one that is open.
  *
  * Replies. The upper half of a reply says which answer it is, its lower half is the answer's
  * number. 0 is a refusal with its number, and every lent word is then as before; 1 and 2 are the
  * answers of the call, with 0 for a number where none is named. The number of an interval is
  * departure * 65536 + arrival.
  *
- * Words, by their bits; the bits that are not named are 0:
- *   opening       31-30: 2   25-18: animals - 1       17-10: carry time - 1   ticks - 1: below
- *   contact       31-30: 1   25-18: the animal left   17-10: the animal met   tick - 1: below
- *   end of a log  31-30: 3   27-0: the contacts of the log
- *   interval      31-30: 1   25-13: the departure     12-0: the arrival
- *   count         31-30: 3   12-0: the rows in use of a cell
- * Of ticks - 1 and of tick - 1 the lower ten bits are bits 9-0, and the upper two are bits 27-26. A
- * log is an opening word, contact words and an end word; a chain is contact words. A table is an
- * opening word and for each ordered pair of animals a count word, the intervals and 0 in each row
- * that is not in use.
- *
- * The old format. Calendars had at most 1024 ticks, an interval word had its departure in bits 21-11
- * and its arrival in bits 10-0, and all other words were as they are. An old log is read as it is,
- * and means the same. An old table is carried over into a new one by herd_carry_over. OLD AND NEW
- * TABLES CANNOT BE TOLD APART BY THEIR WORDS: the old word of [4, 5] is the new word of [1, 5]. Carry
- * each table over once, and when in doubt read its log again.
+ * Words of logs and chains, by their bits; the bits that are not named are 0:
+ *   opening       31-30: 2   25-18: animals - 1       17-10: carry time - 1   9-0: ticks - 1
+ *   contact       31-30: 1   25-18: the animal left   17-10: the animal met   9-0: tick - 1
+ *   end of a log  31-30: 3   25-0: the contacts of the log
  *
  * Refusals. Any words and any numbers may be given. Each call below names its refusals in the order
  * of its checks, and the first check that fails gives its number:
  *    1  the animals are not 1 to 256
- *    2  the ticks are not 1 to 4096
+ *    2  the ticks are not 1 to 1024
  *    3  the carry time is not 1 to 256
  *    4  the table has not the length for these numbers
  *    5  the table is empty, has no opening word first, or not the length for it
- *    6  some cell of the table is not well formed; in herd_carry_over 5 and 6 are of the old table in
- *       the old format
+ *    6  some cell of the table is not well formed
  *    7  an animal is not below the number of animals
  *    8  both animals are the same
  *    9  a tick is not 1 to ticks; in herd_earliest and herd_latest, not 1 to ticks + carry time
@@ -60,7 +46,7 @@
  *   18  a record is no stay of an animal of the table in a pen from 0 to 63, at ticks of the table,
  *       the first not after the last; or the last record is incomplete
  *   19  both ticks of a window are in range, and its first is after its last
- *   20  the second table, lent for work or to be carried into, has not the length of the first
+ *   20  the table lent for work has not the length of the first
  *   21  the table does not hold the contact
  */
 #ifndef HERD_H
@@ -119,14 +105,6 @@ uint64_t herd_stays(uint32_t *table, size_t words, const uint32_t *stays, size_t
  * 1: done. Refusals: 5, 6, 20, 7, 8, 9, 21. */
 uint64_t herd_remove(uint32_t *table, size_t words, uint32_t *work, size_t work_words, uint32_t u,
                      uint32_t v, uint32_t t);
-
-/* Carries a table of the old format over into a new one of the same length, whatever the new one
- * held: it then has the old one's opening word and, cell for cell, its intervals and no others. The
- * old one is only read. Carry each table over once: a table that is carried over again may be taken
- * for an old one, and then holds other intervals without a refusal. When in doubt read its log again
- * by herd_read_log. 1: done. Refusals: 5, 6, 20. */
-uint64_t herd_carry_over(const uint32_t *old, size_t old_words, uint32_t *new_table,
-                         size_t new_words);
 
 /* Opens the table as the log says and adds its contacts. 1: read, with how many different ones.
  * Refusals: 11, 4, for each word between first and last in turn 12, 13, and then 14. */

@@ -5,10 +5,10 @@
 //!
 //! The caller lends a table of 1 + n·n·(τ+1) words for n animals and τ ticks. [`open`] opens it, [`add`] adds a contact,
 //! [`join`] adds all contacts of a second table, [`stays`] adds those of animals that were in the same pen at the same
-//! tick, [`remove`] takes a contact out again, [`read_log`] loads a whole log and [`write_log`] writes one, and
-//! [`carry_over`] makes a table of one of the old format. [`reach`], [`earliest`], [`latest`], [`connected`], [`reached`]
-//! and [`chain`] ask about the journeys of the contacts that the table holds, and [`claimed`] judges a chain that somebody
-//! claims. A call keeps nothing but the words lent to it, and reads and writes only these.
+//! tick, [`remove`] takes a contact out again, [`read_log`] loads a whole log and [`write_log`] writes one. [`reach`],
+//! [`earliest`], [`latest`], [`connected`], [`reached`] and [`chain`] ask about the journeys of the contacts that the table
+//! holds, and [`claimed`] judges a chain that somebody claims. A call keeps nothing but the words lent to it, and reads and
+//! writes only these.
 //!
 //! A contact leaves one animal at a tick and arrives at another when the carry time is over. A journey is a row of
 //! contacts, at least one, each leaving the animal that the one before it reached, no earlier than it got there. A window
@@ -23,29 +23,13 @@
 //!
 //! # Words
 //!
-//! The words of a table, of a log and of a chain; the bits that are not named are 0. In a table, behind the opening word,
-//! each cell is a count word and a row for each tick: an interval word, or 0 where the row is not in use.
+//! The words of a log and of a chain; the bits that are not named are 0.
 //!
-//! | word | bits 31–30 | bits 27–26 | bits 25–18 | bits 17–10 | bits 9–0 |
-//! |---|---|---|---|---|---|
-//! | opening | 2 | ticks − 1, upper two bits | animals − 1 | carry time − 1 | ticks − 1, lower ten bits |
-//! | contact | 1 | tick − 1, upper two bits | the animal left | the animal met | tick − 1, lower ten bits |
-//!
-//! | word | bits 31–30 | fields |
-//! |---|---|---|
-//! | interval | 1 | departure in bits 25–13, arrival in bits 12–0 |
-//! | count of a cell | 3 | the rows in use, in bits 12–0 |
-//! | end of a log | 3 | the contacts of the log, in bits 27–0 |
-//!
-//! # The old format
-//!
-//! The old format is that of calendars of at most 1,024 ticks. A log of it is, word for word, one of the new format and
-//! means the same: it is read as it is. A table of it has other interval words, the departure in bits 21–11
-//! and the arrival in bits 10–0, and is carried over by [`carry_over`]. An old table and a new one cannot be told apart by
-//! their words: the old word of \[4, 5\] is the new one of \[1, 5\]. Carry each table over once, and when in doubt read its
-//! log again.
-//!
-//! # Stays
+//! | word | bits 31–30 | bits 25–18 | bits 17–10 | bits 9–0 |
+//! |---|---|---|---|---|
+//! | opening | 2 | animals − 1 | carry time − 1 | ticks − 1 |
+//! | contact | 1 | the animal left | the animal met | tick − 1 |
+//! | end of a log | 3 | the contacts of the log, in bits 25–0 | | |
 //!
 //! A record of a list of stays is four words, each a plain number: animal, pen, first tick, last tick. [`Stay`](crate::Stay) is such a
 //! record.
@@ -57,7 +41,7 @@
 //!
 //! | calls | number | given when |
 //! |---|---|---|
-//! | `open` | 1, 2, 3 | animals, ticks, carry time beyond their limits (1 to 256, 1 to 4,096, 1 to 256) |
+//! | `open` | 1, 2, 3 | animals, ticks, carry time beyond their limits (1 to 256, 1 to 1,024, 1 to 256) |
 //! | `open` | 4 | the table has not the length for these numbers |
 //! | `read_log` | 11 | the log has no opening word first, or no word behind it |
 //! | `read_log` | 4 | the table has not the length for this opening word |
@@ -65,7 +49,7 @@
 //! | `read_log` | 14 | the last word is no end word with the number of the words between |
 //! | all others | 5 | the table is empty, has no opening word first, or not the length for it |
 //! | all others | 6 | some cell of the table is not well formed |
-//! | `remove`, `carry_over` | 20 | the second table has not the length of the first |
+//! | `remove` | 20 | the second table has not the length of the first |
 //! | those with animals | 7 | an animal is n or above |
 //! | those with two | 8 | both animals are the same |
 //! | `add`, `remove`, those with windows | 9 | a tick is not 1 to τ |
@@ -78,7 +62,6 @@
 //! | `stays` | 18 | a record is no legal stay, or the last one is incomplete |
 //!
 //! `join` judges its first table by 5 and 6, and then its second one likewise; `remove` judges its first table so, and of
-//! its second one the length alone. `carry_over` judges its first table, the old one, by 5 and 6 in the old format, and of
 //! its second one the length alone. A stay is legal when its animal is below n, its pen is 0 to 63, its ticks are 1 to τ,
 //! and its first tick is not after its last.
 //!
@@ -124,14 +107,6 @@
 //! assert_eq!(table, work);
 //! assert_eq!(calls::remove(&mut table, &mut work, 1, 3, 4), Done::Refused(21));
 //! assert_eq!(calls::remove(&mut table, &mut work[1..], 1, 3, 4), Done::Refused(20));
-//!
-//! // A table of the old format for 2 animals, 1 tick and carry time 1, with the contact from 0 to 1.
-//! let old = [0x8004_0000, 0xC000_0000, 0, 0xC000_0001, 0x4000_0802, 0xC000_0000, 0, 0xC000_0000, 0];
-//! let mut new = [0; 9];
-//! assert_eq!(calls::carry_over(&old, &mut new), Done::Done);
-//! assert_eq!(calls::reach(&new, 0, 1, 1, 1), Answer::Yes);
-//! assert_eq!(calls::carry_over(&old, &mut new[1..]), Done::Refused(20));
-//! assert_eq!(calls::carry_over(&old[1..], &mut new[1..]), Done::Refused(5));
 //! ```
 
 mod answers;
@@ -147,4 +122,4 @@ pub use answers::{
 pub use chains::{chain, claimed};
 pub use logs::{read_log, write_log};
 pub use questions::{connected, earliest, latest, reach, reached};
-pub use tables::{add, carry_over, join, open, remove, stays};
+pub use tables::{add, join, open, remove, stays};

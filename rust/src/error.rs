@@ -1,6 +1,5 @@
 //! Why a call did not do what it was asked.
 
-use crate::words::{LAST_PEN, LONGEST_CARRY, MOST_ANIMALS, MOST_TICKS};
 use crate::{Contact, Stay};
 use std::fmt;
 use std::io;
@@ -28,7 +27,7 @@ use std::io;
 pub enum Error {
     /// A herd has 1 to 256 animals, not so many (refusal 1).
     Animals(u32),
-    /// A calendar has 1 to 4,096 ticks, not so many (refusal 2).
+    /// A calendar has 1 to 1,024 ticks, not so many (refusal 2).
     Ticks(u32),
     /// A carry time is 1 to 256 ticks, not so many (refusal 3).
     Carry(u32),
@@ -82,11 +81,6 @@ pub enum Error {
         /// What is wrong with it.
         reason: Box<Error>,
     },
-    /// The words are no table of the old format: there is no opening word of that format first, or there are not as many
-    /// words as it says (refusal 5).
-    NoOldTable,
-    /// Some cell is not well formed in the old format (refusal 6).
-    OldCells,
     /// A log does not begin with an opening word (refusal 11).
     NoOpeningWord,
     /// A log breaks off behind its opening word (refusal 11).
@@ -142,8 +136,6 @@ impl Error {
             Error::Animals(_) => Some(1),
             Error::Ticks(_) => Some(2),
             Error::Carry(_) => Some(3),
-            Error::NoOldTable => Some(5),
-            Error::OldCells => Some(6),
             Error::NoSuchAnimal { .. } => Some(7),
             Error::SameAnimal(_) => Some(8),
             Error::NoSuchTick { .. } => Some(9),
@@ -168,14 +160,10 @@ impl Error {
     fn reason(&self, f: &mut fmt::Formatter<'_>) -> fmt::Result {
         match self {
             Error::Animals(animals) => {
-                write!(f, "a herd has 1 to {MOST_ANIMALS} animals, not {animals}")
+                write!(f, "a herd has 1 to 256 animals, not {animals}")
             }
-            Error::Ticks(ticks) => {
-                write!(f, "a calendar has 1 to {MOST_TICKS} ticks, not {ticks}")
-            }
-            Error::Carry(carry) => {
-                write!(f, "a carry time is 1 to {LONGEST_CARRY} ticks, not {carry}")
-            }
+            Error::Ticks(ticks) => write!(f, "a calendar has 1 to 1024 ticks, not {ticks}"),
+            Error::Carry(carry) => write!(f, "a carry time is 1 to 256 ticks, not {carry}"),
             Error::NoSuchAnimal { animal, animals: 1 } => {
                 write!(f, "there is no animal {animal}, the only animal is 0")
             }
@@ -212,18 +200,10 @@ impl Error {
                 f.write_str(" and ")?;
                 opening(f, second)
             }
-            Error::NoSuchPen(pen) => {
-                write!(f, "there is no pen {pen}, the pens are 0 to {LAST_PEN}")
-            }
+            Error::NoSuchPen(pen) => write!(f, "there is no pen {pen}, the pens are 0 to 63"),
             Error::Stay { stay, reason, .. } => {
                 write!(f, "stay of {stay}: ")?;
                 reason.reason(f)
-            }
-            Error::NoOldTable => f.write_str(
-                "not a table of the old format: no opening word of that format first, or not as many words as it says",
-            ),
-            Error::OldCells => {
-                f.write_str("a cell of the table is not well formed in the old format")
             }
             Error::NoOpeningWord => {
                 f.write_str("not a log: it does not begin with an opening word")

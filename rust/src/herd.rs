@@ -2,10 +2,13 @@
 
 use crate::calls::{self, Added as Add, Answer, Chain, Done, Found, Joined, Opened};
 use crate::calls::{Reached, StaysAdded};
-use crate::words::{self, Opening, SET_WORDS};
+use crate::words::{self, Opening};
 use crate::{Contact, Error, Interval, Stay};
 use std::fmt;
 use std::ops::RangeInclusive;
+
+/// The words of a set of animals.
+const SET_WORDS: usize = 8;
 
 /// What [`Herd::add`] did.
 #[must_use]
@@ -58,10 +61,10 @@ impl Herd {
     /// ```
     /// use herd::Herd;
     ///
-    /// let herd = Herd::open(4, 4096, 256)?;
-    /// assert_eq!((herd.animals(), herd.ticks(), herd.carry()), (4, 4096, 256));
-    /// let error = Herd::open(4, 4097, 1).unwrap_err();
-    /// assert_eq!(error.to_string(), "a calendar has 1 to 4096 ticks, not 4097 (refusal 2)");
+    /// let herd = Herd::open(256, 1024, 256)?;
+    /// assert_eq!((herd.animals(), herd.ticks(), herd.carry()), (256, 1024, 256));
+    /// let error = Herd::open(4, 1025, 1).unwrap_err();
+    /// assert_eq!(error.to_string(), "a calendar has 1 to 1024 ticks, not 1025 (refusal 2)");
     /// # Ok::<(), herd::Error>(())
     /// ```
     pub fn open(animals: u32, ticks: u32, carry: u32) -> Result<Herd, Error> {
@@ -84,48 +87,6 @@ impl Herd {
             Opened::Opened => Ok(Herd::over(opening, table, 0)),
             Opened::Refused(number) => Err(Error::Damaged(number)),
         }
-    }
-
-    /// Carries a table of the old format over: the herd has its opening and holds its contacts.
-    ///
-    /// The old format is that of tables with at most 1,024 ticks, whose interval words have the departure in bits 21–11 and
-    /// the arrival in bits 10–0. The words are only read. They should be those of a table that calls built from an opening.
-    /// Of any other table that is well formed the herd keeps the intervals, and holds the contacts whose own interval is
-    /// among them; it need not equal another herd that holds the same contacts.
-    ///
-    /// An old table and a new one cannot be told apart by their words: a new one given here may be taken for an old one, and
-    /// then the herd is a wrong one without an error. Carry each table over once, and when in doubt
-    /// [read its log](Herd::read_log) again: logs of the old format are read as they are, and mean the same.
-    ///
-    /// # Errors
-    ///
-    /// [`Error::NoOldTable`] and [`Error::OldCells`] where the words are no well-formed table of the old format.
-    ///
-    /// ```
-    /// use herd::{Contact, Herd};
-    ///
-    /// // Two animals, one tick, carry time 1, and the contact from 0 to 1 at tick 1.
-    /// let mut old = [0x8004_0000, 0xC000_0000, 0, 0xC000_0001, 0x4000_0802, 0xC000_0000, 0, 0xC000_0000, 0];
-    /// let herd = Herd::carry_over(&old)?;
-    /// assert_eq!((herd.animals(), herd.ticks(), herd.carry()), (2, 1, 1));
-    /// assert_eq!(herd.contacts()?, [Contact::new(0, 1, 1)]);
-    ///
-    /// old[4] = 0x4000_2002; // the same interval in the new format
-    /// assert_eq!(Herd::carry_over(&old).unwrap_err().number(), Some(6));
-    /// assert_eq!(Herd::carry_over(&old[1..]).unwrap_err().number(), Some(5));
-    /// # Ok::<(), herd::Error>(())
-    /// ```
-    pub fn carry_over(old: &[u32]) -> Result<Herd, Error> {
-        let mut table = memory(old.len())?;
-        match calls::carry_over(old, &mut table) {
-            Done::Done => {}
-            Done::Refused(5) => return Err(Error::NoOldTable),
-            Done::Refused(6) => return Err(Error::OldCells),
-            Done::Refused(number) => return Err(Error::Damaged(number)),
-        }
-        let opening = Opening::of_word(table[0]).ok_or(Error::Damaged(0))?;
-        let held = opening.held(&table);
-        Ok(Herd::over(opening, table, held))
     }
 
     /// The herd with this opening, these words and so many contacts.
@@ -498,8 +459,8 @@ impl Herd {
         let mut set = [0; SET_WORDS];
         match calls::reached(&self.table, from, first, last, &mut set) {
             Reached::Animals(_) => {
-                let all = 0..self.opening.animals;
-                Ok(all.filter(|&animal| words::is_in(&set, animal)).collect())
+                let is_in = |animal: &u32| set[*animal as usize / 32] >> (animal % 32) & 1 == 1;
+                Ok((0..self.opening.animals).filter(is_in).collect())
             }
             Reached::Refused(number) => Err(self.refused(number, &[from], &[first, last])),
         }
@@ -654,7 +615,8 @@ impl Herd {
         let size = self.opening.cell_words();
         let pair = from as usize * self.opening.animals as usize + to as usize;
         let cell = &self.table[1 + pair * size..1 + (pair + 1) * size];
-        Ok(words::intervals_of(cell).collect())
+        let rows = cell[1..].iter().take(words::rows_of(cell[0]));
+        Ok(rows.copied().map(words::interval_of).collect())
     }
 
     /// The answer of a question for yes or no, or why there is none.

@@ -14,15 +14,12 @@
 //! do not depend on the order in which contacts came. What cannot be done is an [`Error`] with its reason, and then nothing
 //! has changed.
 //!
-//! A herd has at most 256 animals and 4,096 ticks, and its carry time is at most 256. It holds every contact of its animals
+//! A herd has at most 256 animals and 1,024 ticks, and its carry time is at most 256. It holds every contact of its animals
 //! and ticks: there is no further limit. It owns a table of 1 + n·n·(τ+1) words of four bytes for n animals and τ ticks (15
-//! million bytes for 60 animals and 1,024 ticks, 1,074 million at the limits). Every question and every change checks the
+//! million bytes for 60 animals and 1,024 ticks, 269 million at the limits). Every question and every change checks the
 //! whole table first, in about the time of one read of it, on small tables full of intervals of up to 30: ask
 //! [`Herd::reached`] once rather than [`Herd::reach`] for each animal. [`Herd::extend`] and [`Herd::remove`] also load all
 //! contacts held again: add one contact by [`Herd::add`] and many by [`Herd::extend`].
-//!
-//! Logs of the old format, with at most 1,024 ticks, are read as they are. A table of the old format is carried over by
-//! [`Herd::carry_over`], once: the words do not tell an old table from a new one, so when in doubt read its log again.
 //!
 //! # In five lines
 //!

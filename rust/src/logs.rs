@@ -16,7 +16,7 @@ impl Herd {
     /// repeats. It carries no checksum: a log whose contacts were changed to others is read without a word.
     ///
     /// The input is read in large pieces, so that a file needs no buffer around it. The first word says how large the table
-    /// is, up to 1,074 million bytes, which are taken before the rest is judged.
+    /// is, up to 269 million bytes, which are taken before the rest is judged.
     ///
     /// # Errors
     ///

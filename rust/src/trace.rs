@@ -111,8 +111,8 @@ impl Herd {
 
 #[cfg(test)]
 mod tests {
-    use crate::words::{count_word, interval_word, Opening};
-    use crate::{calls, Error, Herd, Interval};
+    use crate::words::Opening;
+    use crate::{calls, Error, Herd};
 
     /// A herd whose table says that 0 reaches 3, but holds no contact: no calls of a herd make such a table.
     fn without_contacts() -> Herd {
@@ -123,8 +123,7 @@ mod tests {
         };
         let mut table = vec![0; opening.table_words()];
         assert_eq!(calls::open(&mut table, 4, 6, 1), calls::Opened::Opened);
-        let cell = [count_word(1), interval_word(Interval::new(1, 5))];
-        table[22..24].copy_from_slice(&cell);
+        table[22..24].copy_from_slice(&[0xC000_0001, 0x4000_0805]);
         Herd::over(opening, table, 0)
     }
 

@@ -3,9 +3,7 @@
 use herd_testing::cases;
 use herd_testing::random::Random;
 use herd_testing::suite::{draws, Call, Export, Lent, Reply, Suite};
-use herd_testing::words::{
-    self, Contact, Interval, Opening, Window, MOST_ANIMALS, MOST_TICKS, NEW,
-};
+use herd_testing::words::{self, Contact, Interval, Opening, Window};
 use std::collections::{BTreeMap, BTreeSet};
 
 /// A journey of contacts that a table holds, and the window that it just fits.
@@ -60,22 +58,16 @@ impl<'a> Claim<'a> {
 type Wrong = fn(&Claim, &mut Random) -> Option<Vec<u32>>;
 
 /// Such words.
-const WRONG: [(&str, Wrong); 17] = [
+const WRONG: [(&str, Wrong); 16] = [
     ("no word", |_, _| Some(Vec::new())),
     ("a word of another kind", |claim, random| {
         let (mut chain, place) = (claim.words(), claim.place(random));
-        chain[place] = cases::other_kind(random, chain[place]);
+        chain[place] ^= random.between(1, 3) << 30;
         Some(chain)
     }),
     ("an unnamed bit", |claim, random| {
         let (mut chain, place) = (claim.words(), claim.place(random));
-        chain[place] |= 1 << random.one_of(&words::unnamed(&NEW.of_contact()));
-        Some(chain)
-    }),
-    ("an upper piece of the tick", |claim, random| {
-        let (mut chain, place) = (claim.words(), claim.place(random));
-        let upper = random.between(1, NEW.upper.capacity() - 1);
-        chain[place] ^= NEW.upper.put(upper);
+        chain[place] |= 1 << random.between(26, 29);
         Some(chain)
     }),
     ("zero", |claim, random| {
@@ -92,13 +84,13 @@ const WRONG: [(&str, Wrong); 17] = [
     }),
     ("animal left, n or above", |claim, random| {
         let place = claim.place(random);
-        let from = random.between(claim.lent.opening.animals, MOST_ANIMALS - 1);
+        let from = random.between(claim.lent.opening.animals, 255);
         let taken = claim.journey[place];
         Some(claim.with(place, Contact { from, ..taken }))
     }),
     ("animal met, n or above", |claim, random| {
         let place = claim.place(random);
-        let to = random.between(claim.lent.opening.animals, MOST_ANIMALS - 1);
+        let to = random.between(claim.lent.opening.animals, 255);
         let taken = claim.journey[place];
         Some(claim.with(place, Contact { to, ..taken }))
     }),
@@ -111,9 +103,9 @@ const WRONG: [(&str, Wrong); 17] = [
     ("tick beyond the last", |claim, random| {
         let place = claim.place(random);
         let ticks = claim.lent.opening.ticks;
-        let tick = random.one_of(&[ticks + 1, MOST_TICKS]);
+        let tick = random.one_of(&[ticks + 1, 1024]);
         let taken = claim.journey[place];
-        (ticks < MOST_TICKS).then(|| claim.with(place, Contact { tick, ..taken }))
+        (ticks < 1024).then(|| claim.with(place, Contact { tick, ..taken }))
     }),
     ("a contact that is not held", |claim, random| {
         let place = claim.place(random);

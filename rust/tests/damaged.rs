@@ -3,10 +3,7 @@
 use herd_testing::cases;
 use herd_testing::random::Random;
 use herd_testing::suite::{draws, Export, Lent, Reply, Suite};
-use herd_testing::words::{
-    self, Cells, Interval, Opening, EDGE_TICKS, LARGEST, LONGEST_CARRY, MOST_ANIMALS, MOST_TICKS,
-    NEW, PIECE,
-};
+use herd_testing::words::{self, Cells, Interval, Opening};
 use std::collections::BTreeMap;
 
 /// The refusals of calls on an open table.
@@ -80,14 +77,10 @@ fn put(start: usize, row: usize, departure: u32, arrival: u32) -> Option<(usize,
     Some((start + 1 + row, words::interval_word(interval)))
 }
 
-/// The latest arrival that an interval word can say.
-const LATEST: u32 = NEW.arrival.capacity() - 1;
-
 /// Wrong opening words.
-const REFUSED_5: [(&str, Damage); 6] = [
+const REFUSED_5: [(&str, Damage); 5] = [
     ("opening, unnamed bit", |good, random| {
-        let bit = random.one_of(&words::unnamed(&NEW.of_opening()));
-        Some((0, good.lent.words[0] | 1 << bit))
+        Some((0, good.lent.words[0] | 1 << random.between(26, 29)))
     }),
     ("opening, another kind", |good, random| {
         Some((0, cases::other_kind(random, good.lent.words[0])))
@@ -102,13 +95,6 @@ const REFUSED_5: [(&str, Damage); 6] = [
         let other = Opening::new(o.animals, o.ticks + 1, o.carry);
         Some((0, words::opening_word(other)))
     }),
-    (
-        "opening, another upper piece of the ticks",
-        |good, random| {
-            let upper = random.between(1, NEW.upper.capacity() - 1);
-            Some((0, good.lent.words[0] ^ NEW.upper.put(upper)))
-        },
-    ),
     ("opening, zero", |_, _| Some((0, 0))),
 ];
 
@@ -117,8 +103,8 @@ const REFUSED_6: [(&str, Damage); 24] = [
     ("count, above the ticks", |good, random| {
         let rows = random.one_of(&[
             good.opening.ticks + 1,
-            MOST_TICKS.max(good.opening.ticks + 2),
-            NEW.rows.capacity() - 1,
+            1024.max(good.opening.ticks + 2),
+            2047,
         ]);
         Some((good.cell(random, 0, 0)?, words::count_word(rows)))
     }),
@@ -132,8 +118,7 @@ const REFUSED_6: [(&str, Damage); 24] = [
     }),
     ("count, unnamed bit", |good, random| {
         let start = good.cell(random, 0, 0)?;
-        let bit = random.one_of(&words::unnamed(&NEW.of_count()));
-        Some((start, good.lent.words[start] | 1 << bit))
+        Some((start, good.lent.words[start] | 1 << random.between(11, 29)))
     }),
     ("count, another kind", |good, random| {
         let start = good.cell(random, 0, 0)?;
@@ -145,8 +130,7 @@ const REFUSED_6: [(&str, Damage); 24] = [
     ("row, unnamed bit", |good, random| {
         let (start, row) = good.row(random, 0, 0)?;
         let place = start + 1 + row;
-        let bit = random.one_of(&words::unnamed(&NEW.of_interval()));
-        Some((place, good.lent.words[place] | 1 << bit))
+        Some((place, good.lent.words[place] | 1 << random.between(22, 29)))
     }),
     ("row, another kind", |good, random| {
         let (start, row) = good.row(random, 0, 0)?;
@@ -192,9 +176,8 @@ const REFUSED_6: [(&str, Damage); 24] = [
     }),
     ("departure, largest number", |good, random| {
         let start = good.cell(random, 1, 0)?;
-        let arrival = random.one_of(&[good.opening.last_arrival(), LATEST]);
-        let row = good.rows(start).len() - 1;
-        put(start, row, NEW.departure.capacity() - 1, arrival)
+        let arrival = random.one_of(&[good.opening.last_arrival(), 2047]);
+        put(start, good.rows(start).len() - 1, 2047, arrival)
     }),
     ("arrival, before it can be", |good, random| {
         let start = good.cell(random, 1, 0)?;
@@ -208,7 +191,7 @@ const REFUSED_6: [(&str, Damage); 24] = [
     ("arrival, after the last", |good, random| {
         let start = good.cell(random, 1, 0)?;
         let row = good.rows(start).len() - 1;
-        let late = random.one_of(&[good.opening.last_arrival() + 1, LATEST]);
+        let late = random.one_of(&[good.opening.last_arrival() + 1, 2047]);
         put(start, row, good.rows(start)[row].departure, late)
     }),
     ("unused word, one bit", |good, random| {
@@ -342,10 +325,10 @@ fn opening_word_is_judged_before_the_cells() {
     }
 }
 
-/// Flips each bit of one word in so many in turn, and makes so many calls on each.
-fn flip_bits(turns: &mut Turns, lent: &Lent, step: usize, calls: usize) {
+/// Flips each bit of each word in turn, and makes so many calls on each.
+fn flip_every_bit(turns: &mut Turns, lent: &Lent, calls: usize) {
     let mut words = lent.words.clone();
-    for place in (0..words.len()).step_by(step) {
+    for place in 0..words.len() {
         for bit in 0..32 {
             words[place] ^= 1 << bit;
             turns.take(&lent.with(words.clone()), calls);
@@ -359,7 +342,7 @@ fn every_bit_of_small_tables() {
     let mut turns = Turns::new(704);
     for _ in 0..100 {
         let lent = draws::stored(&mut turns.random);
-        flip_bits(&mut turns, &lent, 1, 3);
+        flip_every_bit(&mut turns, &lent, 3);
     }
     turns.suite.at_least(20, &Export::ON_OPEN_TABLES, &REFUSALS);
 }
@@ -369,7 +352,7 @@ fn every_bit_of_tables_that_adds_built() {
     let mut turns = Turns::new(709);
     for _ in 0..100 {
         let lent = draws::built(&mut turns.random);
-        flip_bits(&mut turns, &lent, 1, 3);
+        flip_every_bit(&mut turns, &lent, 3);
     }
     let asked = [
         Export::Add,
@@ -384,14 +367,11 @@ fn every_bit_of_tables_that_adds_built() {
 #[test]
 fn every_bit_of_long_cells() {
     let mut turns = Turns::new(705);
-    for (ticks, step) in [(PIECE + 1, 1), (MOST_TICKS, 97)] {
-        let opening = Opening::new(2, ticks, 200);
-        let mut cells = cases::cells(&mut turns.random, opening);
-        cells[1].truncate(300);
-        cells[2].truncate(3);
-        let lent = Lent::stored(opening, &cells);
-        flip_bits(&mut turns, &lent, step, 1);
-    }
+    let opening = Opening::new(2, 1024, 200);
+    let mut cells = cases::cells(&mut turns.random, opening);
+    cells[1].truncate(300);
+    cells[2].truncate(3);
+    flip_every_bit(&mut turns, &Lent::stored(opening, &cells), 1);
     for export in Export::ON_OPEN_TABLES {
         let six = turns
             .suite
@@ -411,17 +391,15 @@ fn every_bit_of_long_cells() {
 fn every_word_of_every_cell_length() {
     let mut turns = Turns::new(708);
     let mut lengths: Vec<u32> = (1..=130).collect();
-    lengths.extend([255, 256, 257, 511, 512, 513, 1000]);
-    lengths.extend(EDGE_TICKS);
+    lengths.extend([255, 256, 257, 511, 512, 513, 1000, 1023, 1024]);
     for ticks in lengths {
-        let opening = Opening::new(2, ticks, turns.random.between(1, LONGEST_CARRY));
+        let opening = Opening::new(2, ticks, turns.random.between(1, 256));
         let mut cells = cases::cells(&mut turns.random, opening);
         let rows = turns.random.below(cells[2].len() + 1);
         cells[2].truncate(rows);
         let good = Good::new(opening, cells);
-        let step = if ticks > PIECE { 37 } else { 1 };
-        for place in (1..good.lent.words.len()).step_by(step) {
-            let bit = turns.random.between(NEW.departure.high + 1, 31);
+        for place in 1..good.lent.words.len() {
+            let bit = turns.random.between(22, 31);
             let lent = good.with(place, good.lent.words[place] ^ 1 << bit);
             turns.refuse(&lent, if ticks <= 70 { EACH } else { 2 }, 6, "one bit");
         }
@@ -433,12 +411,10 @@ fn every_interval_and_count_at_every_word() {
     let mut turns = Turns::new(710);
     for (animals, ticks, carry) in [(1, 2, 1), (2, 1, 3), (2, 3, 1), (2, 4, 2), (3, 3, 2)] {
         let opening = Opening::new(animals, ticks, carry);
-        let departures = (0..=ticks + 2).chain([MOST_TICKS, NEW.departure.capacity() - 1]);
-        let ends = [LARGEST.last_arrival(), LATEST];
-        let arrivals: Vec<u32> = (0..=ticks + carry + 2).chain(ends).collect();
+        let departures = (0..=ticks + 2).chain([1024, 2047]);
+        let arrivals: Vec<u32> = (0..=ticks + carry + 2).chain([1280, 2047]).collect();
         let mut others: Vec<u32> = (0..=ticks + 2).map(words::count_word).collect();
-        let most_rows = words::count_word(NEW.rows.capacity() - 1);
-        others.extend([words::count_word(MOST_TICKS), most_rows, 0, 1]);
+        others.extend([words::count_word(1024), words::count_word(2047), 0, 1]);
         for departure in departures {
             let interval = |&arrival: &u32| Interval::new(departure, arrival);
             others.extend(arrivals.iter().map(interval).map(words::interval_word));
@@ -462,13 +438,11 @@ fn scattered(random: &mut Random, lent: &Lent) -> Lent {
     for _ in 0..random.below(4) {
         let place = random.below(words.len());
         let other = random.one_of(&words);
-        let (departure, arrival) = (random.between(0, 7), NEW.arrival.get(random.word()));
-        let early = words::interval_word(Interval::new(departure, arrival));
+        let small = random.word() & 0x0000_3FFF;
         let flipped = words[place] ^ 1 << random.between(0, 31);
-        let later = NEW.departure.put(1);
-        let step = random.one_of(&[1, later, u32::MAX, 0u32.wrapping_sub(later)]);
+        let step = random.one_of(&[1, 1 << 11, u32::MAX, 0u32.wrapping_sub(1 << 11)]);
         let near = words[place].wrapping_add(step);
-        words[place] = random.one_of(&[other, flipped, near, near, early, 0]);
+        words[place] = random.one_of(&[other, flipped, near, near, 0x4000_0000 | small, 0]);
     }
     lent.with(words)
 }
@@ -507,7 +481,7 @@ fn wrong_lengths_are_refused() {
     for _ in 0..1_000 {
         let good = drawn(&mut turns.random);
         let (mut words, right) = (good.lent.words.clone(), good.lent.words.len());
-        words.push(turns.random.one_of(&[0, words::count_word(0), u32::MAX]));
+        words.push(turns.random.one_of(&[0, 0xC000_0000, 0xFFFF_FFFF]));
         words.extend(vec![0; 40]);
         let anywhere = turns.random.below(right);
         let longer = right + 1 + turns.random.below(40);
@@ -524,9 +498,9 @@ fn every_opening_word_over_a_short_table() {
     for _ in 0..25_000 {
         let random = &mut turns.random;
         let opening = Opening::new(
-            random.between(1, LARGEST.animals),
-            random.between(1, LARGEST.ticks),
-            random.between(1, LARGEST.carry),
+            random.between(1, 256),
+            random.between(1, 1024),
+            random.between(1, 256),
         );
         let mut words = vec![0; random.between(1, 40) as usize];
         words[0] = words::opening_word(opening);
@@ -545,7 +519,7 @@ fn a_length_that_another_opening_has() {
     let mut turns = Turns::new(713);
     let table = words::table(Opening::new(1, 7, 1), &vec![Vec::new()]);
     assert_eq!(table.len(), Opening::new(2, 1, 1).table_words());
-    for (animals, ticks) in [(2, 2), (3, 1), (1, 6), (1, 8), (MOST_ANIMALS, MOST_TICKS)] {
+    for (animals, ticks) in [(2, 2), (3, 1), (1, 6), (1, 8), (256, 1024)] {
         let other = Opening::new(animals, ticks, 1);
         let mut words = table.clone();
         words[0] = words::opening_word(other);

@@ -23,11 +23,6 @@ fn session() -> [Contact; 3] {
     contacts([(0, 1, 1), (0, 1, 2), (1, 3, 4)])
 }
 
-/// The interval word from the departure to the arrival.
-fn row(departure: u32, arrival: u32) -> u32 {
-    words::interval_word(Interval::new(departure, arrival))
-}
-
 /// The words of the session's table.
 fn session_table() -> Vec<u32> {
     let mut table = vec![0; 113];
@@ -35,23 +30,10 @@ fn session_table() -> Vec<u32> {
     for cell in table[1..].chunks_mut(7) {
         cell[0] = 0xC000_0000;
     }
-    table[8..11].copy_from_slice(&[0xC000_0002, row(1, 2), row(2, 3)]);
-    table[22..24].copy_from_slice(&[0xC000_0001, row(2, 5)]);
-    table[50..52].copy_from_slice(&[0xC000_0001, row(4, 5)]);
+    table[8..11].copy_from_slice(&[0xC000_0002, 0x4000_0802, 0x4000_1003]);
+    table[22..24].copy_from_slice(&[0xC000_0001, 0x4000_1005]);
+    table[50..52].copy_from_slice(&[0xC000_0001, 0x4000_2005]);
     table
-}
-
-#[test]
-fn rows_of_the_session_in_bits() {
-    for (word, departure, arrival) in [
-        (0x4000_2002, 1, 2),
-        (0x4000_4003, 2, 3),
-        (0x4000_4005, 2, 5),
-        (0x4000_8005, 4, 5),
-    ] {
-        assert_eq!(row(departure, arrival), word, "{departure} {arrival}");
-        assert!(session_table().contains(&word));
-    }
 }
 
 #[test]
@@ -122,9 +104,9 @@ fn contacts_of_the_session_come_out_again() {
         table[start..start + 3].copy_from_slice(&[0xC000_0001, row, 0]);
     };
     let mut without: Vec<Vec<u32>> = session().map(|_| session_table()).into();
-    one_row(&mut without[0], 8, row(2, 3));
-    one_row(&mut without[1], 8, row(1, 2));
-    one_row(&mut without[1], 22, row(1, 5));
+    one_row(&mut without[0], 8, 0x4000_1003);
+    one_row(&mut without[1], 8, 0x4000_0802);
+    one_row(&mut without[1], 22, 0x4000_0805);
     without[2][22..24].copy_from_slice(&[0xC000_0000, 0]);
     without[2][50..52].copy_from_slice(&[0xC000_0000, 0]);
     for (contact, without) in session().into_iter().zip(without) {

@@ -61,7 +61,7 @@ static void openings(void) {
     uint32_t table[WORDS];
     fill(table, WORDS);
     wrote("herd_open", herd_open(table, WORDS, 0, TICKS, CARRY), table, WORDS);
-    wrote("herd_open", herd_open(table, WORDS, ANIMALS, 4097, CARRY), table, WORDS);
+    wrote("herd_open", herd_open(table, WORDS, ANIMALS, 1025, CARRY), table, WORDS);
     wrote("herd_open", herd_open(table, WORDS, ANIMALS, TICKS, 257), table, WORDS);
     wrote("herd_open", herd_open(table, WORDS - 1, ANIMALS, TICKS, CARRY), table, WORDS);
     wrote("herd_open", herd_open(table, WORDS, ANIMALS, TICKS, CARRY), table, WORDS);
@@ -118,23 +118,6 @@ static void removals(void) {
     removed(table, work, WORDS - 1);
     removed(table, work, WORDS);
     removed(table, work, WORDS);
-}
-
-/* The length of a table for two animals and two ticks. */
-enum { SMALL = HERD_TABLE_WORDS(2, 2) };
-
-static void carryings(void) {
-    /* A table of the old format: carry time 1, the contacts 0 to 1 at tick 1 and 1 to 0 at tick 2. */
-    uint32_t old[SMALL] = {0x80040001u, 0xC0000000u, 0, 0, 0xC0000001u, 0x40000802u, 0,
-                           0xC0000001u, 0x40001003u, 0, 0xC0000000u, 0, 0};
-    uint32_t table[SMALL];
-    fill(table, SMALL);
-    wrote("herd_carry_over", herd_carry_over(old, 0, table, SMALL), table, SMALL);
-    wrote("herd_carry_over", herd_carry_over(old, SMALL - 1, table, SMALL), table, SMALL);
-    wrote("herd_carry_over", herd_carry_over(old, SMALL, table, SMALL - 1), table, SMALL);
-    wrote("herd_carry_over", herd_carry_over(old, SMALL, table, SMALL), table, SMALL);
-    old[5] = 0x40002002u;
-    wrote("herd_carry_over", herd_carry_over(old, SMALL, table, SMALL), table, SMALL);
 }
 
 /* The line of reading the session's log with another word at this place. */
@@ -216,7 +199,6 @@ int main(void) {
     joins();
     stays();
     removals();
-    carryings();
     logs();
     session(table);
     pairs(table);

@@ -3,7 +3,6 @@
 
 use herd::calls;
 use herd_testing::suite::{Export, Reply};
-use herd_testing::words::{self, Contact, Field, Interval, Opening, LARGEST, NEW, OLD};
 use std::collections::BTreeSet;
 use std::ffi::OsStr;
 use std::fs;
@@ -118,16 +117,12 @@ fn rust_parameters(piece: &str) -> Vec<(String, Type)> {
     parameters
 }
 
-/// The declarations by name, and lengths without theirs. The engine's `new` is a word of C++, so it is `new_table` here.
+/// The declarations by name, and lengths without theirs.
 fn as_in_the_engine(mut declarations: Vec<Declaration>) -> Vec<Declaration> {
     declarations.sort_by(|a, b| a.name.cmp(&b.name));
     let parameters = declarations.iter_mut().flat_map(|d| &mut d.parameters);
-    for (name, of_type) in parameters {
-        match (&name[..], of_type) {
-            (_, Type::Length) => name.clear(),
-            ("new", _) => *name = "new_table".to_string(),
-            _ => {}
-        }
+    for (name, _) in parameters.filter(|(_, of_type)| *of_type == Type::Length) {
+        name.clear();
     }
     declarations
 }
@@ -202,10 +197,10 @@ fn names(declarations: &[Declaration]) -> BTreeSet<String> {
 }
 
 #[test]
-fn header_wrapper_and_engine_declare_the_same_fifteen_exports() {
+fn header_wrapper_and_engine_declare_the_same_fourteen_exports() {
     let header = prototypes(&header());
-    assert_eq!(header.len(), 15);
-    assert_eq!(names(&header).len(), 15);
+    assert_eq!(header.len(), 14);
+    assert_eq!(names(&header).len(), 14);
     assert_eq!(difference(&header, &wrapper_declarations()), None);
     let header = as_in_the_engine(header);
     assert_eq!(difference(&header, &engine_declarations()), None);
@@ -275,7 +270,7 @@ fn with_other_export(header: &str, name: &str) -> [String; 3] {
 fn every_edit_of_a_prototype_is_told() {
     let (header, wrapper, engine) = (header(), wrapper_declarations(), engine_declarations());
     let exports = prototypes(&header);
-    assert_eq!(exports.len(), 15);
+    assert_eq!(exports.len(), 14);
     for export in exports {
         let mut edited = with_other_parameters(&header, &export.name);
         assert_eq!(edited.len(), 5 * export.parameters.len() - 1);
@@ -318,61 +313,6 @@ fn the_header_names_the_refusals_of_each_export_in_their_order() {
         let name = export_name(export);
         assert_eq!(named_refusals(&header, &name), export.refusals(), "{name}");
     }
-}
-
-/// The header's text of this refusal.
-fn text_of(header: &str, number: u32) -> String {
-    let beginning = format!(" *   {number:2}  ");
-    let lines = header.lines();
-    let line = lines.filter_map(|line| line.strip_prefix(&beginning));
-    line.collect()
-}
-
-#[test]
-fn the_header_names_the_limits() {
-    let header = header();
-    for (number, text) in [
-        (1, format!("the animals are not 1 to {}", LARGEST.animals)),
-        (2, format!("the ticks are not 1 to {}", LARGEST.ticks)),
-        (3, format!("the carry time is not 1 to {}", LARGEST.carry)),
-    ] {
-        assert_eq!(text_of(&header, number), text);
-    }
-}
-
-/// The bits of a field as the header writes them.
-fn bits(field: Field) -> String {
-    format!("{}-{}:", field.high, field.low)
-}
-
-#[test]
-fn the_header_names_the_fields() {
-    let header = header();
-    for (word, kind, fields) in [
-        ("opening", words::OPENING, &[words::LEFT, words::RIGHT][..]),
-        ("contact", words::CONTACT, &[words::LEFT, words::RIGHT]),
-        ("end of a log", words::END, &[NEW.logged]),
-        ("interval", words::INTERVAL, &[NEW.departure, NEW.arrival]),
-        ("count", words::COUNT, &[NEW.rows]),
-    ] {
-        let beginning = format!(" *   {word:12}  {} {kind}", bits(words::KIND));
-        let line = header.lines().find(|line| line.starts_with(&beginning));
-        let line = line.unwrap_or_else(|| panic!("no line begins with {beginning}"));
-        let mut rest = &line[beginning.len()..];
-        for &field in fields {
-            let found = rest.split_once(&bits(field));
-            rest = found
-                .unwrap_or_else(|| panic!("{field:?} is not in {line}"))
-                .1;
-        }
-    }
-    let (lower, upper) = (words::LOWER, NEW.upper);
-    let pieces = format!(
-        "the lower ten bits are bits {}-{}, and the upper two are bits {}-{}",
-        lower.high, lower.low, upper.high, upper.low
-    );
-    assert!(header.contains(&pieces), "{pieces}");
-    assert_eq!((lower.capacity(), upper.capacity()), (1 << 10, 1 << 2));
 }
 
 // ---- a C program
@@ -450,8 +390,8 @@ fn openings(lines: &mut Lines) {
     let mut table = vec![9; WORDS];
     for (words, animals, ticks, carry) in [
         (WORDS, 0, TICKS, CARRY),
-        (WORDS, ANIMALS, LARGEST.ticks + 1, CARRY),
-        (WORDS, ANIMALS, TICKS, LARGEST.carry + 1),
+        (WORDS, ANIMALS, 1025, CARRY),
+        (WORDS, ANIMALS, TICKS, 257),
         (WORDS - 1, ANIMALS, TICKS, CARRY),
         (WORDS, ANIMALS, TICKS, CARRY),
     ] {
@@ -504,27 +444,6 @@ fn removals(lines: &mut Lines) {
         let done = calls::remove(&mut table, &mut work[..words], 1, 3, 4);
         lines.wrote("remove", done, &[&table[..], &work].concat());
     }
-}
-
-fn carryings(lines: &mut Lines) {
-    let opening = Opening::new(2, 2, 1);
-    let there = vec![Contact::new(0, 1, 1).interval(1)];
-    let back = vec![Contact::new(1, 0, 2).interval(1)];
-    let mut old = OLD.table(opening, &vec![vec![], there, back, vec![]]);
-    let words = old.len();
-    let mut table = vec![9; words];
-    for (old_words, new_words) in [
-        (0, words),
-        (words - 1, words),
-        (words, words - 1),
-        (words, words),
-    ] {
-        let done = calls::carry_over(&old[..old_words], &mut table[..new_words]);
-        lines.wrote("carry_over", done, &table);
-    }
-    old[5] = NEW.interval_word(Interval::new(1, 2));
-    let done = calls::carry_over(&old, &mut table);
-    lines.wrote("carry_over", done, &table);
 }
 
 fn logs(lines: &mut Lines) {
@@ -605,7 +524,6 @@ fn expected() -> Vec<String> {
     joins(&mut lines);
     stays(&mut lines);
     removals(&mut lines);
-    carryings(&mut lines);
     logs(&mut lines);
     let table = session();
     pairs(&mut lines, &table);

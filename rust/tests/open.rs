@@ -3,48 +3,14 @@
 use herd::calls::Opened;
 use herd_testing::random::Random;
 use herd_testing::suite::{draws, Call, Export, Lent, Reply, Suite};
-use herd_testing::words::{Opening, LARGEST, LONGEST_CARRY, MOST_ANIMALS, MOST_TICKS, PIECE};
+use herd_testing::words::Opening;
 
 /// Numbers of animals at and beyond the limits, with some whose square wraps in 32 bits.
-const ANIMALS: [u32; 10] = [
-    0,
-    1,
-    2,
-    3,
-    MOST_ANIMALS - 1,
-    MOST_ANIMALS,
-    MOST_ANIMALS + 1,
-    1 << 16,
-    1 << 31,
-    u32::MAX,
-];
+const ANIMALS: [u32; 10] = [0, 1, 2, 3, 255, 256, 257, 1 << 16, 1 << 31, u32::MAX];
 /// Numbers of ticks at and beyond the limits.
-const TICKS: [u32; 13] = [
-    0,
-    1,
-    2,
-    PIECE - 1,
-    PIECE,
-    PIECE + 1,
-    2 * PIECE,
-    2 * PIECE + 1,
-    MOST_TICKS - 1,
-    MOST_TICKS,
-    MOST_TICKS + 1,
-    1 << 20,
-    u32::MAX,
-];
+const TICKS: [u32; 8] = [0, 1, 2, 1023, 1024, 1025, 1 << 20, u32::MAX];
 /// Carry times at and beyond the limits.
-const CARRIES: [u32; 8] = [
-    0,
-    1,
-    2,
-    LONGEST_CARRY - 1,
-    LONGEST_CARRY,
-    LONGEST_CARRY + 1,
-    1 << 10,
-    u32::MAX,
-];
+const CARRIES: [u32; 8] = [0, 1, 2, 255, 256, 257, 1 << 10, u32::MAX];
 /// The most words that a case takes; the largest table has a test of its own.
 const MOST: u64 = 1 << 18;
 
@@ -90,13 +56,13 @@ fn refusals_come_in_order() {
     let mut table = [7; 113];
     let refused = [
         ((0, 0, 0), 1),
-        ((MOST_ANIMALS + 1, 0, 0), 1),
+        ((257, 0, 0), 1),
         ((4, 0, 0), 2),
-        ((4, MOST_TICKS + 1, LONGEST_CARRY + 1), 2),
+        ((4, 1025, 257), 2),
         ((4, 6, 0), 3),
-        ((4, 6, LONGEST_CARRY + 1), 3),
+        ((4, 6, 257), 3),
         ((4, 7, 1), 4),
-        ((LARGEST.animals, LARGEST.ticks, LARGEST.carry), 4),
+        ((256, 1024, 256), 4),
     ];
     for ((animals, ticks, carry), number) in refused {
         let answer = herd::calls::open(&mut table, animals, ticks, carry);
@@ -119,7 +85,7 @@ fn opening_again_empties_a_table() {
         let call = Call::Open(
             lent.opening.animals,
             lent.opening.ticks,
-            random.between(1, LONGEST_CARRY),
+            random.between(1, 256),
         );
         suite.require(&lent, &call, Reply::Opened);
     }

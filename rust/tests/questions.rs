@@ -4,9 +4,7 @@ use herd::calls::Found;
 use herd_testing::cases;
 use herd_testing::random::Random;
 use herd_testing::suite::{Call, Export, Lent, Reply, Suite};
-use herd_testing::words::{
-    self, Contact, Interval, Opening, EDGE_TICKS, LONGEST_CARRY, MOST_TICKS,
-};
+use herd_testing::words::{self, Contact, Interval, Opening};
 
 /// Yes where it is so, else no.
 fn answered(so: bool) -> Reply {
@@ -92,11 +90,9 @@ fn earliest_and_latest_go_by_the_row_next_to_the_tick() {
     few[small.pair(0, 1)] = several.map(|(d, a)| Interval::new(d, a)).to_vec();
     few[small.pair(1, 0)] = vec![Interval::new(7, 30)];
     few[small.pair(1, 2)] = vec![Interval::new(1, 3), Interval::new(40, 42)];
-    let large = Opening::new(2, MOST_TICKS, LONGEST_CARRY);
+    let large = Opening::new(2, 1024, 256);
     let mut many = cases::full_cells(large);
-    let every_other = (1..=MOST_TICKS)
-        .step_by(2)
-        .map(|d| Interval::new(d, d + LONGEST_CARRY + 1));
+    let every_other = (1..=1024).step_by(2).map(|d| Interval::new(d, d + 257));
     many[large.pair(1, 0)] = every_other.collect();
     for (opening, cells) in [(small, few), (large, many)] {
         let lent = Lent::stored(opening, &cells);
@@ -112,27 +108,22 @@ fn earliest_and_latest_go_by_the_row_next_to_the_tick() {
 #[test]
 fn both_ends_at_their_limits() {
     let mut random = Random::new(1_104);
-    let carry = LONGEST_CARRY;
-    let first = Found::At(Interval::new(1, 1 + carry));
-    for (animals, ticks) in [2, 3]
-        .into_iter()
-        .flat_map(|animals| EDGE_TICKS.map(|ticks| (animals, ticks)))
-    {
-        let opening = Opening::new(animals, ticks, carry);
-        let end = opening.last_arrival();
-        let last = Found::At(Interval::new(ticks, end));
-        let listed = words::contacts([(0, 1, 1), (0, 1, ticks)]);
+    let first = Found::At(Interval::new(1, 257));
+    let last = Found::At(Interval::new(1024, 1280));
+    for animals in [2, 3] {
+        let opening = Opening::new(animals, 1024, 256);
+        let listed = words::contacts([(0, 1, 1), (0, 1, 1024)]);
         let table = Lent::built(&mut random, opening, &listed).words;
         for (tick, earliest, latest) in [
             (1, first, Found::Nothing),
             (2, last, Found::Nothing),
-            (carry, last, Found::Nothing),
-            (1 + carry, last, first),
-            (ticks, last, first),
-            (ticks + 1, Found::Nothing, first),
-            (end - 1, Found::Nothing, first),
-            (end, Found::Nothing, last),
-            (end + 1, Found::Refused(9), Found::Refused(9)),
+            (256, last, Found::Nothing),
+            (257, last, first),
+            (1024, last, first),
+            (1025, Found::Nothing, first),
+            (1279, Found::Nothing, first),
+            (1280, Found::Nothing, last),
+            (1281, Found::Refused(9), Found::Refused(9)),
         ] {
             assert_eq!(
                 herd::calls::earliest(&table, 0, 1, tick),

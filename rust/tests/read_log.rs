@@ -6,10 +6,7 @@ use herd_testing::compare::{same_table, same_words};
 use herd_testing::model::{self, Contacts};
 use herd_testing::random::Random;
 use herd_testing::suite::{Call, Export, Lent, Reply, Suite};
-use herd_testing::words::{
-    self, Contact, Field, Interval, Opening, KIND, LONGEST_CARRY, MOST_ANIMALS, MOST_TICKS, NEW,
-    PIECE,
-};
+use herd_testing::words::{self, Contact, Interval, Opening};
 use std::collections::BTreeMap;
 
 /// The refusals of reading a log.
@@ -31,7 +28,7 @@ fn set(contacts: &[Contact]) -> Contacts {
 fn held_before(random: &mut Random, opening: Opening) -> Vec<u32> {
     let length = opening.table_words();
     let other = Opening {
-        carry: random.between(1, LONGEST_CARRY),
+        carry: random.between(1, 256),
         ..opening
     };
     match random.below(6) {
@@ -174,15 +171,13 @@ fn logs_without_contacts() {
     for (animals, ticks, carry) in [
         (1, 1, 1),
         (1, 1, 256),
-        (1, MOST_TICKS, 256),
+        (1, 1024, 256),
         (2, 1, 1),
+        (2, 1024, 1),
         (7, 5, 3),
         (12, 40, 41),
         (256, 1, 9),
-    ]
-    .into_iter()
-    .chain(cases::long_openings())
-    {
+    ] {
         let opening = Opening::new(animals, ticks, carry);
         let log = words::log(opening, []);
         assert_eq!(log.len(), 2);
@@ -201,13 +196,11 @@ fn logs_of_every_legal_contact() {
         (2, 1, 1),
         (3, 5, 2),
         (7, 12, 14),
+        (2, 1024, 256),
         (12, 40, 1),
         (16, 64, 1),
         (64, 3, 1),
-    ]
-    .into_iter()
-    .chain(cases::long_openings())
-    {
+    ] {
         let opening = Opening::new(animals, ticks, carry);
         let legal = cases::legal_contacts(opening);
         let cells = cases::full_cells(opening);
@@ -340,9 +333,9 @@ impl Good {
     }
 }
 
-/// The word with one more of the bits that none of these fields has.
-fn unnamed_bit(random: &mut Random, word: u32, fields: &[Field]) -> u32 {
-    word | 1 << random.one_of(&words::unnamed(fields))
+/// The word with one of the unnamed bits 29–26.
+fn unnamed_bit(random: &mut Random, word: u32) -> u32 {
+    word | 1 << random.between(26, 29)
 }
 
 /// A wrong word for a good log.
@@ -351,7 +344,7 @@ type Wrong = fn(&Good, &mut Random) -> u32;
 /// First words that are no opening word.
 const FIRST_11: [(&str, Wrong); 6] = [
     ("first, unnamed bit", |good, random| {
-        unnamed_bit(random, good.log[0], &NEW.of_opening())
+        unnamed_bit(random, good.log[0])
     }),
     ("first, another kind", |good, random| {
         cases::other_kind(random, good.log[0])
@@ -366,7 +359,7 @@ const FIRST_11: [(&str, Wrong); 6] = [
 const BETWEEN_12: [(&str, Wrong); 7] = [
     ("contact, unnamed bit", |good, random| {
         let contact = good.contact(random);
-        unnamed_bit(random, words::contact_word(contact), &NEW.of_contact())
+        unnamed_bit(random, words::contact_word(contact))
     }),
     ("contact, another kind", |good, random| {
         let contact = good.contact(random);
@@ -383,23 +376,23 @@ const BETWEEN_12: [(&str, Wrong); 7] = [
 ];
 
 /// Contact words whose contact is not legal.
-const BETWEEN_13: [(&str, Wrong); 10] = [
+const BETWEEN_13: [(&str, Wrong); 9] = [
     ("animal left, n", |good, random| {
         let contact = good.contact(random);
         words::contact_word(Contact::new(good.opening.animals, contact.to, contact.tick))
     }),
-    ("animal left, the largest", |good, random| {
+    ("animal left, 255", |good, random| {
         let contact = good.contact(random);
-        words::contact_word(Contact::new(MOST_ANIMALS - 1, contact.to, contact.tick))
+        words::contact_word(Contact::new(255, contact.to, contact.tick))
     }),
     ("animal met, n", |good, random| {
         let contact = good.contact(random);
         let met = good.opening.animals;
         words::contact_word(Contact::new(contact.from, met, contact.tick))
     }),
-    ("animal met, the largest", |good, random| {
+    ("animal met, 255", |good, random| {
         let contact = good.contact(random);
-        words::contact_word(Contact::new(contact.from, MOST_ANIMALS - 1, contact.tick))
+        words::contact_word(Contact::new(contact.from, 255, contact.tick))
     }),
     ("one animal with itself", |good, random| {
         let contact = good.contact(random);
@@ -414,31 +407,23 @@ const BETWEEN_13: [(&str, Wrong); 10] = [
         let late = good.opening.ticks + 1;
         words::contact_word(Contact::new(contact.from, contact.to, late))
     }),
-    ("tick, the largest", |good, random| {
+    ("tick, 1024", |good, random| {
         let contact = good.contact(random);
-        words::contact_word(Contact::new(contact.from, contact.to, MOST_TICKS))
-    }),
-    ("tick, with an upper piece", |good, random| {
-        let upper = random.between(1, NEW.upper.capacity() - 1);
-        words::contact_word(good.contact(random)) | NEW.upper.put(upper)
+        words::contact_word(Contact::new(contact.from, contact.to, 1024))
     }),
     ("an interval word that names no animal", |_, random| {
-        let arrival = NEW.arrival.get(random.word());
-        words::interval_word(Interval::new(NEW.departure.capacity() - 1, arrival))
+        words::interval_word(Interval::new(2047, random.between(0, 2047)))
     }),
 ];
-
-/// The most contacts that an end word can count.
-const MOST_LOGGED: u32 = NEW.logged.capacity() - 1;
 
 /// Last words that are no end word with the true count.
 const LAST_14: [(&str, Wrong); 8] = [
     ("count, one more", |good, _| good.log[good.last()] + 1),
     ("count, one less", |good, _| good.log[good.last()] - 1),
     ("count, 0", |_, _| words::end_word(0)),
-    ("count, largest", |_, _| words::end_word(MOST_LOGGED)),
+    ("count, largest", |_, _| words::end_word(0x03FF_FFFF)),
     ("end, unnamed bit", |good, random| {
-        unnamed_bit(random, good.log[good.last()], &NEW.of_end())
+        unnamed_bit(random, good.log[good.last()])
     }),
     ("end, another kind", |good, random| {
         cases::other_kind(random, good.log[good.last()])
@@ -574,15 +559,12 @@ fn an_interval_word_is_read_as_the_contact_of_its_bits() {
     let mut suite = Suite::default();
     let before = Random::new(913).words(opening.table_words());
     for (departure, arrival, expected) in [
-        (1, 2, Reply::Refused(13)),
+        (1, 2, Reply::Read(1)),
+        (1, 7, Reply::Refused(13)),
+        (2, 3, Reply::Refused(13)),
+        (0, 1024, Reply::Read(1)),
         (0, 0, Reply::Refused(13)),
-        (0, PIECE, Reply::Read(1)),
-        (0, 2 * PIECE + 5, Reply::Read(1)),
-        (0, 2 * PIECE + 6, Reply::Refused(13)),
-        (32, 0, Reply::Read(1)),
-        (32, PIECE, Reply::Refused(13)),
-        (64, 3 * PIECE + 3, Reply::Read(1)),
-        (128, 0, Reply::Refused(13)),
+        (128, 0, Reply::Read(1)),
     ] {
         let word = words::interval_word(Interval::new(departure, arrival));
         let log = [words::opening_word(opening), word, words::end_word(1)];
@@ -682,16 +664,12 @@ fn checks_run_in_order() {
     suite.at_least(400, &[Export::ReadLog], &REFUSALS);
 }
 
-/// The refusal that flipping this bit of a log of so many words and few ticks brings in any case.
+/// The refusal that flipping this bit of a log of so many words brings in any case.
 fn certain_refusal(place: usize, bit: u32, words: usize) -> Option<Reply> {
-    let last = place == words - 1;
-    let (named, upper) = (NEW.upper.high, NEW.upper.low);
-    match place {
-        _ if last => Some(Reply::Refused(14)),
-        0 if bit > named => Some(Reply::Refused(11)),
-        0 if bit >= upper => Some(Reply::Refused(4)),
-        _ if bit > named => Some(Reply::Refused(12)),
-        _ if bit >= upper => Some(Reply::Refused(13)),
+    match (place, bit) {
+        _ if place == words - 1 => Some(Reply::Refused(14)),
+        (0, 26..) => Some(Reply::Refused(11)),
+        (_, 26..) => Some(Reply::Refused(12)),
         _ => None,
     }
 }
@@ -712,7 +690,7 @@ fn every_bit_of_small_logs() {
             }
         }
     }
-    suite.at_least(480, &[Export::ReadLog], &REFUSALS);
+    suite.at_least(700, &[Export::ReadLog], &REFUSALS);
 }
 
 #[test]
@@ -721,7 +699,7 @@ fn every_bit_of_the_opening_with_the_table_it_asks_for() {
     let mut suite = Suite::default();
     for _ in 0..200 {
         let good = Good::drawn(&mut random);
-        for bit in 0..=NEW.upper.high {
+        for bit in 0..26 {
             let log = good.with(0, good.log[0] ^ 1 << bit);
             let asked = words::read_opening(log[0]).expect("an opening word");
             if asked.table_words() < 20_000 {
@@ -766,7 +744,7 @@ fn nothing_but_random_words() {
         let last = log.len() - 1;
         log[0] = words::opening_word(opening);
         compare(&mut suite, &log, before.clone());
-        log[1..last].fill_with(|| words::as_contact(random.word()));
+        log[1..last].fill_with(|| 0x4000_0000 | random.word() & 0x03FF_FFFF);
         compare(&mut suite, &log, before.clone());
         log[last] = words::end_word(last as u32 - 1);
         compare(&mut suite, &log, before.clone());
@@ -781,18 +759,14 @@ fn logs_of_no_word_one_and_two() {
     let opening = Opening::new(3, 4, 2);
     let first = words::opening_word(opening);
     let contact = words::contact_word(Contact::new(0, 1, 1));
-    let longer = first | NEW.upper.put(1);
-    let unnamed = words::unnamed(&NEW.of_opening());
-    assert_eq!(unnamed, words::unnamed(&NEW.of_end()));
     let choices = [
         first,
-        first | 1 << unnamed[0],
-        first | 1 << unnamed[1],
-        longer,
+        first | 1 << 26,
+        first | 1 << 29,
         contact,
         words::end_word(0),
         words::end_word(1),
-        words::end_word(0) | 1 << unnamed[0],
+        words::end_word(0) | 1 << 26,
         0,
         u32::MAX,
     ];
@@ -804,7 +778,7 @@ fn logs_of_no_word_one_and_two() {
         for length in [0, 1, right - 1, right, right + 1] {
             let reply = compare(&mut suite, log, random.words(length));
             let expected = match log[..] {
-                [a, _] if a == longer || a == first && length != right => Reply::Refused(4),
+                [a, _] if a == first && length != right => Reply::Refused(4),
                 [a, b] if a == first && b == words::end_word(0) => Reply::Read(0),
                 [a, _] if a == first => Reply::Refused(14),
                 _ => Reply::Refused(11),
@@ -814,7 +788,7 @@ fn logs_of_no_word_one_and_two() {
     }
     let met = |reply| suite.times(Export::ReadLog, |met| met == reply);
     assert_eq!(met(Reply::Read(0)), 1);
-    assert_eq!((met(Reply::Refused(4)), met(Reply::Refused(14))), (90, 9));
+    assert_eq!((met(Reply::Refused(4)), met(Reply::Refused(14))), (36, 8));
 }
 
 #[test]
@@ -842,7 +816,7 @@ fn tables_of_a_wrong_length() {
         let reply = compare(&mut suite, &words::log(opening, []), before.clone());
         assert_eq!(reply, Reply::Read(0));
     }
-    for (animals, ticks) in [(2, 2), (3, 1), (1, 6), (1, 8), (MOST_ANIMALS, MOST_TICKS)] {
+    for (animals, ticks) in [(2, 2), (3, 1), (1, 6), (1, 8), (256, 1024)] {
         let other = Opening::new(animals, ticks, 1);
         let reply = compare(&mut suite, &words::log(other, []), before.clone());
         assert_eq!(reply, Reply::Refused(4), "{other:?}");
@@ -879,7 +853,7 @@ fn a_damaged_table_is_no_matter() {
 #[test]
 fn logs_of_the_most_contact_words() {
     let opening = Opening::new(2, 3, 1);
-    let most = MOST_LOGGED as usize;
+    let most = (1 << 26) - 1;
     let (one, other) = (Contact::new(0, 1, 2), Contact::new(1, 0, 3));
     let mut log = vec![words::contact_word(one); most + 3];
     log[0] = words::opening_word(opening);
@@ -888,14 +862,14 @@ fn logs_of_the_most_contact_words() {
     let mut table = before.clone();
     for end in [
         words::end_word(0),
-        words::end_word(MOST_LOGGED),
-        KIND.put(words::END) | (MOST_LOGGED + 1),
+        words::end_word(most as u32),
+        0xC400_0000,
     ] {
         log[most + 2] = end;
         assert_eq!(read_log(&log, &mut table), Read::Refused(14), "{end:08X}");
         same_words(&table, &before, end);
     }
-    log[most + 1] = words::end_word(MOST_LOGGED);
+    log[most + 1] = 0xC3FF_FFFF;
     assert_eq!(read_log(&log[..most + 2], &mut table), Read::Contacts(2));
     let expected = model::fresh_table(opening, &set(&[one, other]));
     same_words(&table, &expected, "the most contact words");

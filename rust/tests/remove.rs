@@ -9,9 +9,7 @@ use herd_testing::contents::Contents;
 use herd_testing::model::{self, Contacts};
 use herd_testing::random::Random;
 use herd_testing::suite::{draws, Call, Export, Lent, Reply, Suite};
-use herd_testing::words::{
-    self, Cells, Contact, Interval, Opening, EDGE_TICKS, MOST_TICKS, NEW, PIECE,
-};
+use herd_testing::words::{self, Cells, Contact, Interval, Opening};
 use std::collections::BTreeMap;
 
 /// The refusals of a removal, in the order of its checks.
@@ -924,7 +922,7 @@ fn contacts_that_are_not_legal() {
             (from, to, 0, 9),
             (from, to, ticks + 1, 9),
             (from, to, lent.opening.last_arrival(), 9),
-            (from, to, tick | NEW.arrival.capacity(), 9),
+            (from, to, tick | 1 << 11, 9),
             (from, to, tick | 1 << 16, 9),
             (from, to, u32::MAX, 9),
         ] {
@@ -1190,7 +1188,7 @@ fn random_words_in_both() {
 fn one_animal_has_no_contact() {
     let mut random = Random::new(1_718);
     let mut suite = Suite::default();
-    for ticks in [1, 2, 7].into_iter().chain(EDGE_TICKS) {
+    for ticks in [1, 2, 7, 1023, 1024] {
         for carry in [1, 2, 255, 256] {
             let opening = Opening::new(1, ticks, carry);
             let lent = Lent::fresh(opening, Contacts::new());
@@ -1214,12 +1212,11 @@ fn the_only_contact() {
         (3, 2, 1),
         (5, 12, 3),
         (4, 6, 6),
+        (2, 1024, 1),
+        (2, 1024, 256),
         (256, 1, 256),
         (256, 3, 1),
-    ]
-    .into_iter()
-    .chain(cases::long_openings())
-    {
+    ] {
         let opening = Opening::new(animals, ticks, carry);
         for (u, v) in [(0, animals - 1), (animals - 1, 0), (1, 0)] {
             for t in [1, ticks, 1 + ticks / 2] {
@@ -1242,8 +1239,11 @@ fn wide_tables() {
     let mut random = Random::new(1_720);
     let mut suite = Suite::default();
     let mut times = Times::default();
-    for (animals, ticks, carry) in cases::long_openings().chain([
-        (3, PIECE - 1, 2),
+    for (animals, ticks, carry) in [
+        (2, 1024, 1),
+        (2, 1024, 256),
+        (3, 1024, 256),
+        (3, 1023, 2),
         (4, 600, 100),
         (5, 20, 256),
         (12, 64, 3),
@@ -1251,7 +1251,7 @@ fn wide_tables() {
         (255, 3, 1),
         (256, 1, 256),
         (256, 4, 1),
-    ]) {
+    ] {
         let opening = Opening::new(animals, ticks, carry);
         let mut contacts = cases::following_contacts(&mut random, opening, 60);
         contacts.push(Contact::new(animals - 1, 0, ticks));
@@ -1282,9 +1282,8 @@ fn long_cells_that_no_adds_built() {
     let mut suite = Suite::default();
     let mut times = Times::default();
     for (animals, ticks, carry) in [
-        (2, MOST_TICKS, 256),
-        (2, MOST_TICKS - 1, 1),
-        (2, PIECE + 1, 1),
+        (2, 1024, 256),
+        (2, 1023, 1),
         (3, 300, 7),
         (8, 40, 256),
         (40, 12, 2),
@@ -1312,8 +1311,8 @@ fn one_of_every_legal_contact() {
     let mut random = Random::new(1_721);
     for (animals, ticks, carry) in [
         (2, 1, 1),
-        (2, PIECE + 1, 1),
-        (2, MOST_TICKS, 256),
+        (2, 1024, 1),
+        (2, 1024, 256),
         (3, 200, 1),
         (7, 12, 14),
         (12, 40, 1),

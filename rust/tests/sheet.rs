@@ -4,7 +4,7 @@ use herd_testing::cases;
 use herd_testing::program::Program;
 use herd_testing::random::Random;
 use herd_testing::sheet::{self, MOST_ANIMALS, MOST_BYTES, MOST_TICKS};
-use herd_testing::words::{self, Opening, EDGE_TICKS, LARGEST};
+use herd_testing::words::{self, Opening};
 use std::collections::{BTreeMap, BTreeSet};
 use std::fs;
 use std::path::{Path, PathBuf};
@@ -18,7 +18,7 @@ const PROGRAM: Program = Program {
 /// The folder of the pairs: NAME.log is the input, NAME.txt is the text that it must give.
 const SHEETS: &str = concat!(env!("CARGO_MANIFEST_DIR"), "/sheets");
 /// The number of the pairs.
-const PAIRS: usize = 157;
+const PAIRS: usize = 154;
 
 /// An input of the folder and its text.
 struct Pair {
@@ -145,10 +145,10 @@ fn pairs_have_every_text() {
     met.at_least(&[
         ("sheet", 35),
         ("refused 11", 20),
-        ("refused 12", 14),
-        ("refused 13", 17),
+        ("refused 12", 15),
+        ("refused 13", 14),
         ("refused 14", 20),
-        ("too large", 24),
+        ("too large", 20),
         ("not whole words", 12),
     ]);
 }
@@ -186,7 +186,7 @@ fn opening(random: &mut Random) -> Opening {
     let animals = random.between(1, MOST_ANIMALS);
     let ticks = random.between(1, MOST_TICKS);
     let short = random.between(1, 4);
-    let any = random.between(1, LARGEST.carry);
+    let any = random.between(1, 256);
     Opening::new(
         random.one_of(&[animals, animals, MOST_ANIMALS]),
         random.one_of(&[ticks, ticks, MOST_TICKS]),
@@ -239,9 +239,8 @@ fn made_logs_beyond_the_limits() {
     let mut met = Met::default();
     for _ in 0..150 {
         let within = opening(&mut random);
-        let many = random.one_of(&[MOST_ANIMALS, MOST_ANIMALS + 1, 10, 16, LARGEST.animals]);
-        let edges = [MOST_TICKS, MOST_TICKS + 1, 66, 128];
-        let long = random.one_of(&[&edges[..], &EDGE_TICKS].concat());
+        let many = random.one_of(&[MOST_ANIMALS, MOST_ANIMALS + 1, 10, 16, 256]);
+        let long = random.one_of(&[MOST_TICKS, MOST_TICKS + 1, 66, 128, 1024]);
         let beyond = random.one_of(&[
             Opening::new(many, within.ticks, within.carry),
             Opening::new(within.animals, long, within.carry),

@@ -10,7 +10,7 @@ use herd_testing::contents::Contents;
 use herd_testing::model::{self, Contacts};
 use herd_testing::random::Random;
 use herd_testing::suite::{draws, Call, Export, Lent, Reply, Suite};
-use herd_testing::words::{self, stays, Contact, Opening, EDGE_TICKS, LAST_PEN, MOST_TICKS, PIECE};
+use herd_testing::words::{self, stays, Contact, Opening, LAST_PEN};
 
 /// The refusals of a list of stays.
 const REFUSALS: [u32; 3] = [5, 6, 18];
@@ -577,7 +577,7 @@ fn lists_of_no_record_and_of_one() {
 fn one_animal_meets_nobody() {
     let mut random = Random::new(1_410);
     let mut suite = Suite::default();
-    for ticks in [1, 2, 7].into_iter().chain(EDGE_TICKS) {
+    for ticks in [1, 2, 7, 1023, 1024] {
         for carry in [1, 2, 255, 256] {
             let lent = empty(Opening::new(1, ticks, carry));
             for _ in 0..20 {
@@ -849,8 +849,10 @@ fn wide_tables() {
     let mut random = Random::new(1_418);
     let mut suite = Suite::default();
     let mut all_new = 0;
-    for (animals, ticks, carry) in cases::long_openings().chain([
-        (3, PIECE - 1, 2),
+    for (animals, ticks, carry) in [
+        (2, 1024, 1),
+        (2, 1024, 256),
+        (3, 1023, 2),
         (4, 600, 100),
         (5, 20, 256),
         (12, 64, 3),
@@ -859,20 +861,16 @@ fn wide_tables() {
         (255, 3, 1),
         (256, 1, 256),
         (256, 4, 1),
-    ]) {
+    ] {
         let opening = Opening::new(animals, ticks, carry);
-        let mut contacts = cases::following_contacts(&mut random, opening, 40);
-        contacts.retain(|contact| ticks == 1 || contact.tick < ticks);
+        let contacts = cases::following_contacts(&mut random, opening, 40);
         let fresh = Lent::fresh(opening, contacts.iter().copied().collect());
         let cells = cases::lone_cells(&mut random, opening, &contacts);
         for lent in [fresh, Lent::stored(opening, &cells)] {
             let mut list = cases::stays(&mut random, opening, 12);
             let late = ticks.max(3) - 2;
             let last = animals - 1;
-            list.extend(stays([
-                (last, LAST_PEN, late, ticks),
-                (0, LAST_PEN, ticks, ticks),
-            ]));
+            list.extend(stays([(last, 63, late, ticks), (0, 63, ticks, ticks)]));
             list.extend(stays([(last / 2, 0, 1, 1), (last, 0, 1, 1)]));
             random.shuffle(&mut list);
             let new = new_to(&lent, &list);
@@ -893,8 +891,8 @@ fn every_legal_contact() {
     let mut random = Random::new(1_419);
     for (animals, ticks, carry) in [
         (2, 1, 1),
-        (2, PIECE + 1, 1),
-        (2, MOST_TICKS, 256),
+        (2, 1024, 1),
+        (2, 1024, 256),
         (3, 200, 1),
         (7, 12, 14),
         (12, 40, 1),

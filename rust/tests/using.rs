@@ -1,7 +1,6 @@
 //! What `docs/USING.md` shows is what the program prints, and the example season is what its seed makes.
 
 use herd_testing::season;
-use herd_testing::words::{LARGEST, LAST_PEN};
 use std::collections::BTreeMap;
 use std::env;
 use std::fs;
@@ -189,42 +188,4 @@ fn the_page_has_every_refusal_once() {
         *rows.entry(number).or_default() += 1;
     }
     assert_eq!(rows, (1..=21).map(|number| (number, 1)).collect());
-}
-
-/// The number with a comma before its last three figures, as the page writes it.
-fn written(number: u32) -> String {
-    match (number / 1000, number % 1000) {
-        (0, figures) => figures.to_string(),
-        (thousands, figures) => format!("{thousands},{figures:03}"),
-    }
-}
-
-#[test]
-fn page_and_help_name_the_limits() {
-    let (page, load) = (text("../docs/USING.md"), text("src/bin/herd/help/load.txt"));
-    let rows = [
-        (1, "animals", "number of animals is not", LARGEST.animals),
-        (2, "ticks", "number of ticks is not", LARGEST.ticks),
-        (3, "carry", "carry time is not", LARGEST.carry),
-    ];
-    for (number, option, reason, most) in rows {
-        let row = format!("| {number} | the {reason} 1 to {}", written(most));
-        assert!(page.contains(&row), "{row}");
-        let mut lines = load.lines();
-        let line =
-            lines.find(|line| line.contains(&format!("--{option} ")) && !line.starts_with("Usage"));
-        let line = line.unwrap_or_else(|| panic!("no line about --{option}"));
-        assert!(line.contains(&format!(", 1 to {most}")), "{line}");
-    }
-    let limits = format!(
-        "at most {} animals, {} ticks and a carry time of {}",
-        written(LARGEST.animals),
-        written(LARGEST.ticks),
-        written(LARGEST.carry)
-    );
-    assert!(page.contains(&limits), "{limits}");
-    assert!(page.contains(&format!("in a pen above {LAST_PEN}")));
-    let bytes = 4 * LARGEST.table_words() / 1_000_000;
-    let millions = format!("{} million at the limits", written(bytes as u32));
-    assert!(page.contains(&millions), "{millions}");
 }

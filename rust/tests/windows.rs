@@ -5,9 +5,7 @@ use herd_testing::cases;
 use herd_testing::listing::Listing;
 use herd_testing::random::Random;
 use herd_testing::suite::{Call, Export, Lent, Outcome, Reply, Suite};
-use herd_testing::words::{
-    self, contacts, Contact, Interval, Opening, Window, LONGEST_CARRY, MOST_TICKS, PIECE,
-};
+use herd_testing::words::{self, contacts, Contact, Interval, Opening, Window};
 use std::collections::BTreeMap;
 
 /// Animals, ticks and carry times of small tables; some carry times are as long as the ticks or longer.
@@ -348,9 +346,8 @@ fn windows_and_single_ticks_at_their_limits() {
         (4, 6, 1),
         (3, 5, 5),
         (2, 3, 7),
-        (2, PIECE + 1, 2),
-        (2, MOST_TICKS, 1),
-        (3, MOST_TICKS, LONGEST_CARRY),
+        (2, 1024, 1),
+        (3, 1024, 256),
     ] {
         let opening = Opening::new(animals, ticks, carry);
         let full = Lent::stored(opening, &cases::full_cells(opening));
@@ -386,7 +383,7 @@ fn windows_and_single_ticks_at_their_limits() {
             }
         }
     }
-    assert!(accepted >= 3 * 9, "{accepted}");
+    assert!(accepted >= 3 * 8, "{accepted}");
     let refused = |reply| reply == Reply::Refused(9);
     for export in [
         Export::Reach,
@@ -397,7 +394,7 @@ fn windows_and_single_ticks_at_their_limits() {
         assert!(suite.times(export, refused) > 500, "{export:?}");
     }
     for export in [Export::Earliest, Export::Latest] {
-        assert!(suite.times(export, refused) >= 9 * 6, "{export:?}");
+        assert!(suite.times(export, refused) >= 8 * 6, "{export:?}");
         assert!(suite.times(export, |reply| !refused(reply)) > 2_000);
     }
 }
@@ -411,10 +408,8 @@ fn a_tick_out_of_range_is_told_from_a_window_turned_round() {
         (3, 5, 2),
         (4, 3, 7),
         (2, 40, 256),
-        (3, PIECE + 1, 1),
-        (2, 2 * PIECE, 1),
-        (3, MOST_TICKS, 1),
-        (2, MOST_TICKS, LONGEST_CARRY),
+        (3, 1024, 1),
+        (2, 1024, 256),
     ] {
         let opening = Opening::new(animals, ticks, carry);
         let full = Lent::stored(opening, &cases::full_cells(opening));
@@ -546,43 +541,38 @@ fn claimed_contacts_fit_by_their_ticks_whatever_interval_is_stored() {
 fn the_last_tick_of_the_longest_calendar_with_the_longest_carry_time() {
     let mut random = Random::new(1_707);
     let mut suite = Suite::default();
-    let opening = Opening::new(3, MOST_TICKS, LONGEST_CARRY);
-    let (end, past, arrival) = (opening.ticks, opening.ticks + 1, opening.last_arrival());
-    let start = end - opening.carry;
-    let way = contacts([(0, 1, start), (1, 2, end)]);
+    let opening = Opening::new(3, 1024, 256);
+    let way = contacts([(0, 1, 768), (1, 2, 1024)]);
     let lent = Lent::built(&mut random, opening, &way);
     for ((first, last), whole, second) in [
-        ((1, end), Reply::Yes, Reply::Yes),
-        ((start, end), Reply::Yes, Reply::Yes),
-        ((start + 1, end), Reply::No, Reply::Yes),
-        ((end, end), Reply::No, Reply::Yes),
-        ((start, end - 1), Reply::No, Reply::No),
-        ((1, end - 1), Reply::No, Reply::No),
-        ((1, past), Reply::Refused(9), Reply::Refused(9)),
-        ((past, past), Reply::Refused(9), Reply::Refused(9)),
-        ((1, arrival), Reply::Refused(9), Reply::Refused(9)),
-        ((1, arrival + 1), Reply::Refused(9), Reply::Refused(9)),
-        ((past, end), Reply::Refused(9), Reply::Refused(9)),
-        ((end, 0), Reply::Refused(9), Reply::Refused(9)),
-        ((end, end - 1), Reply::Refused(19), Reply::Refused(19)),
-        ((end, 1), Reply::Refused(19), Reply::Refused(19)),
+        ((1, 1024), Reply::Yes, Reply::Yes),
+        ((768, 1024), Reply::Yes, Reply::Yes),
+        ((769, 1024), Reply::No, Reply::Yes),
+        ((1024, 1024), Reply::No, Reply::Yes),
+        ((768, 1023), Reply::No, Reply::No),
+        ((1, 1023), Reply::No, Reply::No),
+        ((1, 1025), Reply::Refused(9), Reply::Refused(9)),
+        ((1025, 1025), Reply::Refused(9), Reply::Refused(9)),
+        ((1, 1280), Reply::Refused(9), Reply::Refused(9)),
+        ((1, 1281), Reply::Refused(9), Reply::Refused(9)),
+        ((1025, 1024), Reply::Refused(9), Reply::Refused(9)),
+        ((1024, 0), Reply::Refused(9), Reply::Refused(9)),
+        ((1024, 1023), Reply::Refused(19), Reply::Refused(19)),
+        ((1024, 1), Reply::Refused(19), Reply::Refused(19)),
     ] {
         require(&mut suite, &lent, &way, (first, last), whole);
         require(&mut suite, &lent, &way[1..], (first, last), second);
     }
-    let each_way = contacts([(0, 1, end), (1, 0, end)]);
-    let opening = Opening {
-        animals: 2,
-        ..opening
-    };
+    let each_way = contacts([(0, 1, 1024), (1, 0, 1024)]);
+    let opening = Opening::new(2, 1024, 256);
     let table = Lent::built(&mut random, opening, &each_way).words;
     for (first, last, answer) in [
-        (1, end, Answer::Yes),
-        (end, end, Answer::Yes),
-        (1, end - 1, Answer::No),
-        (1, past, Answer::Refused(9)),
-        (past, 1, Answer::Refused(9)),
-        (end, 1, Answer::Refused(19)),
+        (1, 1024, Answer::Yes),
+        (1024, 1024, Answer::Yes),
+        (1, 1023, Answer::No),
+        (1, 1025, Answer::Refused(9)),
+        (1025, 1, Answer::Refused(9)),
+        (1024, 1, Answer::Refused(19)),
     ] {
         assert_eq!(herd::calls::connected(&table, first, last), answer);
     }

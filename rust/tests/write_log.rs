@@ -5,7 +5,7 @@ use herd_testing::cases;
 use herd_testing::model::Contacts;
 use herd_testing::random::Random;
 use herd_testing::suite::{draws, Call, Export, Lent, Reply, Suite};
-use herd_testing::words::{Contact, Opening, MOST_TICKS, PIECE};
+use herd_testing::words::{Contact, Opening};
 
 /// Writes into buffers of every length about the log's own, and compares.
 fn compare(suite: &mut Suite, random: &mut Random, lent: &Lent) {
@@ -47,14 +47,12 @@ fn tables_without_contacts() {
     let mut suite = Suite::default();
     for (animals, ticks, carry) in [
         (1, 1, 1),
-        (1, MOST_TICKS, 256),
+        (1, 1024, 256),
         (2, 1, 1),
+        (2, 1024, 1),
         (7, 5, 3),
         (256, 1, 9),
-    ]
-    .into_iter()
-    .chain(cases::long_openings())
-    {
+    ] {
         let opening = Opening::new(animals, ticks, carry);
         let lent = Lent::fresh(opening, Contacts::new());
         compare(&mut suite, &mut random, &lent);
@@ -69,8 +67,7 @@ fn tables_of_every_legal_contact() {
         (2, 1, 1),
         (3, 5, 2),
         (7, 12, 14),
-        (2, PIECE + 1, 1),
-        (2, MOST_TICKS, 256),
+        (2, 1024, 256),
         (16, 64, 1),
         (256, 2, 1),
     ] {
@@ -104,10 +101,8 @@ fn long_cells_that_no_adds_built() {
     let mut random = Random::new(805);
     let mut suite = Suite::default();
     for (animals, ticks, carry) in [
-        (2, MOST_TICKS, 256),
-        (3, MOST_TICKS, 1),
-        (2, PIECE + 1, 1),
-        (2, 2 * PIECE + 1, 2),
+        (2, 1024, 256),
+        (3, 1024, 1),
         (4, 500, 7),
         (40, 30, 2),
         (256, 3, 1),

@@ -1,31 +1,32 @@
 -- Adding as the loops do it is the rule: the words that they leave and the cells that they count.
-use mathlib.Core.Path.{◌≡◌, refl, sym, ap, ap₂, ◌∙◌}
+use mathlib.Core.Path.{◌≡◌, refl, sym, ap, ap₂, ◌∙◌, subst}
 use mathlib.Core.Bool.{Bool, true, false, cond, not}
 use mathlib.Core.Option.{none, some}
-use mathlib.Core.List.{List, [], ◌∷◌, ◌++◌, append-nil}
+use mathlib.Core.List.{List, [], ◌∷◌, ◌++◌, append-nil, Memᴰ}
 use Prim.Native.Nat.{ℕ, ◌+◌, ◌-◌, ◌*◌, ◌≤◌, ◌<◌}
 use native.Mathlib.Omega.{arith}
+use native.Mathlib.Nat.{le_of_eq}
 use lib.ListN.{length, get_or, take, drop, length-drop}
-use lib.Seq.{drop-length}
+use lib.Seq.{drop-drop, drop-length, take_all}
 use lib.Dec.{eqb}
-use Rattle.journeys.specs.Journey.{Contact, interval}
-use Rattle.journeys.specs.Cell.{Cell, latest_departure, earliest_arrival}
+use Rattle.journeys.specs.Journey.{Contact, Interval, interval}
+use Rattle.journeys.specs.Cell.{Cell, Limits, latest_departure, earliest_arrival}
 use Rattle.journeys.specs.Adding.{departure_of, arrival_of, enter_both, add}
 use Rattle.rules.specs.Limits.{max_ticks, max_carry, max_arrival}
 use Rattle.rules.specs.Folds.{flat, sum_below}
-use Rattle.rules.specs.Layout.{cell_words, table_words_in, animals, ticks, carry, cell_at, cell_of, cells_of, cells_of_in}
+use Rattle.rules.specs.Layout.{cell_words, table_words, animals, ticks, carry, cell_at, cell_of, cells_of}
 use Rattle.rules.specs.Checks.{ValidTable}
-use Rattle.rules.specs.Adding.{Legal, stands, same_cell, cells_changed, add_refusal, added_cells, holds, holds_in, add_leaves}
+use Rattle.rules.specs.Adding.{Legal, stands, same_cell, cells_changed, add_refusal, added_cells, holds, add_leaves}
 use Rattle.rules.proofs.Folds.{flat-length, flat-same, sum_same, count_same}
 use Rattle.rules.proofs.Decode.{cell-length}
-use Rattle.rules.proofs.Sound.{table-sizes, opens-first, opens-length, part_length, part-words}
+use Rattle.rules.proofs.Sound.{table-sizes, opens-first, opens-length, part_length, part-words, passes-good}
 use Rattle.rules.proofs.Judged.{add_iff}
 use Rattle.rules.proofs.Changes.{same_cell-refl}
 use Rattle.rules.proofs.Demand1.{added-good}
 use Rattle.grid.specs.Parts.{part, parts}
 use Rattle.grid.proofs.Flat.{parts-flat}
 use Rattle.grid.specs.Cells.{Grid}
-use Rattle.grid.proofs.Places.{cell_in_lem, cell-from, grid-long, from-long}
+use Rattle.grid.proofs.Places.{rest-lent, cell_in_lem, cell-from, grid-long, from-long}
 use Rattle.cells.specs.Stored.{Stored, or_zero}
 use Rattle.tables.proofs.Stored.{cell-read, cell-limits, stored-cells}
 use Rattle.tables.proofs.Ticks.{Tick, tick-cond, latest-tick, earliest-tick}
@@ -58,17 +59,17 @@ module _ (T : List ℕ) (k : Contact) (ok : add_refusal T k ≡ none) where
 
   -- Whether the contact is known.
   pub known_is : {b : Bool} (lent : List ℕ) → lent ≡ cell_at m (ticks T) T k.from k.to → b ≡ stands (interval k.tick a) (cell_of lent) → b ≡ holds T k
-  unfolding holds_in
+  unfolding holds
   known_is = cell-read (stands (interval k.tick a)) T k.from k.to
 
   -- The departures are those of the rule.
   departure-is : (x : ℕ) → departing m s body k.from k.tick x ≡ or_zero (departure_of (cells_of T) k x)
-  unfolding departing departure_of cells_of_in
+  unfolding departing departure_of cells_of
   departure-is x = ap (tick_by latest_departure k.from k.tick x) (cell_in_lem m (ticks T) T x k.from)
 
   -- The arrivals are those of the rule.
   arrival-is : (y : ℕ) → arriving m s body k.to a y ≡ or_zero (arrival_of (carry T) (cells_of T) k y)
-  unfolding arriving arrival_of cells_of_in
+  unfolding arriving arrival_of cells_of
   arrival-is y = ap (tick_by earliest_arrival k.to a y) (cell_in_lem m (ticks T) T k.to y)
 
   -- The departures lie within their limits.
@@ -112,7 +113,7 @@ module _ (T : List ℕ) (k : Contact) (ok : add_refusal T k ≡ none) where
 
     -- The cell that its words say.
     cell-is : (x y : ℕ) → cell_of (cell_at m (ticks T) T x y) ≡ cells_of T x y
-    unfolding cells_of_in
+    unfolding cells_of
     cell-is x y = refl
 
     -- ---- the words
@@ -160,7 +161,7 @@ module _ (T : List ℕ) (k : Contact) (ok : add_refusal T k ≡ none) where
 
     -- The table's words afterwards, where the words after the opening word were lent.
     pub leaves-is : (new : List ℕ) → new ≡ parts (entered_from m s d e) (m * s) m body → take 1 T ++ (new ++ drop (length T - 1) (drop 1 T)) ≡ add_leaves T k
-    unfolding add_leaves table_words_in
+    unfolding add_leaves table_words
     leaves-is new q =
         rw ok
         (ap₂ ◌++◌ (first-only T (omega (arith, opens-length T passes.opens)))

@@ -10,7 +10,8 @@ use borrow.Author.Tests.{le-leb, lt-leb}
 use Rattle.journeys.specs.Journey.{Interval}
 use Rattle.journeys.specs.Cell.{Cell}
 use Rattle.journeys.proofs.Cover.{departure-path}
-use Rattle.words.specs.Words.{count_word, interval_word, interval_of}
+use Rattle.words.specs.Layout.{get}
+use Rattle.words.specs.Words.{count_word, departure_field, arrival_field, interval_word, interval_of}
 use Rattle.rules.specs.Layout.{cell_of}
 use Rattle.cells.proofs.Lent.{row_is}
 use Rattle.building.specs.RowsInUse.{put_last, with_rows, put_words}
@@ -107,16 +108,16 @@ module _ {xs : List ℕ} {n : ℕ} (p : Counted n xs) (i : Interval) where
     put_is = ap (put_last i) last-is ∙ put-behind i (interval_of (get_or xs n 0)) (take (n - 1) (cell_of xs))
 
     -- Where it departs as late or later, the words stay.
-    pub put-kept : i.departure ≤ (interval_of (get_or xs n 0)).departure → xs ≡ put_words i xs
+    pub put-kept : i.departure ≤ get departure_field (get_or xs n 0) → xs ≡ put_words i xs
     unfolding put_last
     put-kept h = rw (put_is ∙ same) p.in_use.words
       where
         same : take (n - 1) (cell_of xs) ++ put_last i (interval_of (get_or xs n 0) ∷ []) ≡ cell_of xs
-        same = rw (le-leb i.departure (interval_of (get_or xs n 0)).departure h) (sym last-is)
+        same = rw (le-leb i.departure (get departure_field (get_or xs n 0)) h) (sym last-is)
 
-    module _ (h : (interval_of (get_or xs n 0)).departure < i.departure) where
+    module _ (h : get departure_field (get_or xs n 0) < i.departure) where
       -- Where it departs earlier and arrives as late or later, the interval takes its place.
-      pub put-over : i.arrival ≤ (interval_of (get_or xs n 0)).arrival → (w : ℕ) → w ≡ interval_word i → set xs n w ≡ put_words i xs
+      pub put-over : i.arrival ≤ get arrival_field (get_or xs n 0) → (w : ℕ) → w ≡ interval_word i → set xs n w ≡ put_words i xs
       unfolding put_last
       put-over l w ew =
           let k : n ≡ n - 1 + 1 = omega arith in
@@ -126,19 +127,19 @@ module _ {xs : List ℕ} {n : ℕ} (p : Counted n xs) (i : Interval) where
           ∙ put-words (n - 1) (omega arith) (put_is ∙ same)
         where
           same : take (n - 1) (cell_of xs) ++ put_last i (interval_of (get_or xs n 0) ∷ []) ≡ take (n - 1) (cell_of xs) ++ (i ∷ [])
-          same = rw (lt-leb i.departure (interval_of (get_or xs n 0)).departure h, le-leb i.arrival (interval_of (get_or xs n 0)).arrival l) refl
+          same = rw (lt-leb i.departure (get departure_field (get_or xs n 0)) h, le-leb i.arrival (get arrival_field (get_or xs n 0)) l) refl
 
       -- Where it arrives earlier too, the interval goes behind it.
-      pub behind-last : (interval_of (get_or xs n 0)).arrival < i.arrival → Behind i (cell_of xs)
+      pub behind-last : get arrival_field (get_or xs n 0) < i.arrival → Behind i (cell_of xs)
       unfolding put_last
       behind-last l = record { put = put_is ∙ same; few = omega (arith, p.rows, late) }
         where
           same : take (n - 1) (cell_of xs) ++ put_last i (interval_of (get_or xs n 0) ∷ []) ≡ cell_of xs ++ (i ∷ [])
           same =
-              rw (lt-leb i.departure (interval_of (get_or xs n 0)).departure h, lt-leb i.arrival (interval_of (get_or xs n 0)).arrival l)
+              rw (lt-leb i.departure (get departure_field (get_or xs n 0)) h, lt-leb i.arrival (get arrival_field (get_or xs n 0)) l)
               (sym (append_assoc (take (n - 1) (cell_of xs)) (interval_of (get_or xs n 0) ∷ []) (i ∷ [])) ∙ ap (λ (c : Cell). c ++ (i ∷ [])) (sym last-is))
 
-          late : n ≤ (interval_of (get_or xs n 0)).departure
+          late : n ≤ get departure_field (get_or xs n 0)
           late =
               omega
               (arith, p.rows, departure-path last_row, rising-late (cell_of xs) (n - 1) (interval_of 0) p.in_use.rising p.in_use.departs (omega (arith, p.rows)))

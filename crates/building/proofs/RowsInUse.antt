@@ -11,10 +11,11 @@ use lib.ListN.{length, get_or, take, drop, length-append, length-map}
 use lib.Seq.{take_at, drop_at}
 use Rattle.journeys.specs.Journey.{Interval}
 use Rattle.journeys.specs.Cell.{Cell, Rising, latest_departing, latest_departure}
-use Rattle.words.specs.Words.{interval_word, interval_of, rows_of}
-use Rattle.words.proofs.Packed.{interval_of-word, rows_of-word}
+use Rattle.words.specs.Layout.{get}
+use Rattle.words.specs.Words.{rows_field, departure_field, arrival_field, interval_word, interval_of}
+use Rattle.words.proofs.Packed.{interval_of-word, rows_of_word}
 use Rattle.rules.specs.Limits.{max_ticks, max_arrival, max_cell_words}
-use Rattle.rules.specs.Layout.{cell_of, cell_of_in}
+use Rattle.rules.specs.Layout.{cell_of}
 use Rattle.rules.proofs.Folds.{map_back}
 use Rattle.cells.specs.Stored.{RowsInUse, departure_end, arrival_end, front_below, or_zero}
 use Rattle.cells.proofs.Search.{arrival-follows, front_length, front-gt, latest_none, latest-some}
@@ -37,9 +38,9 @@ module _ (c : Cell) (rest : List ℕ) where
   -- The words of no more intervals than a cell has rows, none arriving past the last arrival, say these intervals.
   pub rows-again : length c ≤ max_ticks → ((i : Interval) → Memᴰ i c → (i.departure ≤ max_arrival) × (i.arrival ≤ max_arrival))
       → cell_of (with_rows c rest) ≡ c
-  unfolding cell_of_in with_rows
+  unfolding cell_of with_rows
   rows-again l f =
-      ap (λ (k : ℕ). map interval_of (take k (map interval_word c ++ rest))) (rows_of-word (length c) (omega arith))
+      ap (λ (k : ℕ). map interval_of (take k (map interval_word c ++ rest))) (rows_of_word (length c) (omega arith))
       ∙ ap (map interval_of) (take_at (map interval_word c) rest (length c) (length-map c interval_word))
       ∙ map_back interval_word interval_of c (λ i m. interval_of-word i (omega (arith, (f i m).0)) (omega (arith, (f i m).1)))
 
@@ -65,9 +66,9 @@ module _ (c : Cell) (rest : List ℕ) where
       each i m = f i (subst (λ (d : Cell). Memᴰ i d) again m)
 
 -- The count word says how many rows are in use.
-pub count-is : (xs : List ℕ) → InUse xs → rows_of (get_or xs 0 0) ≡ length (cell_of xs)
+pub count-is : (xs : List ℕ) → InUse xs → get rows_field (get_or xs 0 0) ≡ length (cell_of xs)
 unfolding with_rows
-count-is xs s = ap (λ (l : List ℕ). rows_of (get_or l 0 0)) s.words ∙ rows_of-word (length (cell_of xs)) (omega (arith, s.fits, s.short))
+count-is xs s = ap (λ (l : List ℕ). get rows_field (get_or l 0 0)) s.words ∙ rows_of_word (length (cell_of xs)) (omega (arith, s.fits, s.short))
 
 -- The words of a cell of which n rows are in use.
 pub record Counted (n : ℕ) (xs : List ℕ) : Type 0 where
@@ -77,7 +78,7 @@ pub record Counted (n : ℕ) (xs : List ℕ) : Type 0 where
   pub short : length xs ≤ max_cell_words
 
 -- The count word has been read.
-pub counted : {n : ℕ} {xs : List ℕ} → InUse xs → n ≡ rows_of (get_or xs 0 0) → Counted n xs
+pub counted : {n : ℕ} {xs : List ℕ} → InUse xs → n ≡ get rows_field (get_or xs 0 0) → Counted n xs
 counted {n} {xs} s e =
     record { in_use = s; rows = e ∙ count-is xs s; fits = omega (arith, count-is xs s, s.fits); short = s.short }
 
@@ -96,15 +97,15 @@ module _ (t : ℕ) {n : ℕ} {xs : List ℕ} (p : Counted n xs) where
       (sym (latest_none t (cell_of xs) (interval_of 0) p.in_use.rising (omega (arith, p.rows, front_length arrival_end (t + 1) (cell_of xs)))))
 
   -- Where the last row arrives by t, its departure is the latest.
-  pub latest-last : n ≢ 0 → (interval_of (get_or xs n 0)).arrival ≤ t → (interval_of (get_or xs n 0)).departure ≡ or_zero (latest_departure (cell_of xs) t)
+  pub latest-last : n ≢ 0 → get arrival_field (get_or xs n 0) ≤ t → get departure_field (get_or xs n 0) ≡ or_zero (latest_departure (cell_of xs) t)
   unfolding latest_departure
   latest-last = go n p.rows
     where
-      go : (n : ℕ) → n ≡ length (cell_of xs) → n ≢ 0 → (interval_of (get_or xs n 0)).arrival ≤ t
-          → (interval_of (get_or xs n 0)).departure ≡ or_zero (Option.map departure_end (latest_departing (cell_of xs) t))
+      go : (n : ℕ) → n ≡ length (cell_of xs) → n ≢ 0 → get arrival_field (get_or xs n 0) ≤ t
+          → get departure_field (get_or xs n 0) ≡ or_zero (Option.map departure_end (latest_departing (cell_of xs) t))
       go zero q z h = absurd (z refl)
       go (suc k) q z h =
           let r : get_or (cell_of xs) k (interval_of 0) ≡ interval_of (get_or xs (suc k) 0) = rw (add-one k) at (row_is xs k (omega arith)) in
-          let a : (get_or (cell_of xs) k (interval_of 0)).arrival < t + 1 = rw r (let w : (interval_of (get_or xs (suc k) 0)).arrival < t + 1 = omega arith in w) in
+          let a : (get_or (cell_of xs) k (interval_of 0)).arrival < t + 1 = rw r (let w : get arrival_field (get_or xs (suc k) 0) < t + 1 = omega arith in w) in
           let f : front_below arrival_end (t + 1) (cell_of xs) ≡ suc k = omega (arith, front-gt arrival_end (t + 1) arrival-follows (cell_of xs) k (interval_of 0) p.in_use.rising (omega arith) a, front_length arrival_end (t + 1) (cell_of xs)) in
           sym (ap (λ (o : Option Interval). or_zero (Option.map departure_end o)) (latest-some t (cell_of xs) (interval_of 0) p.in_use.rising k f) ∙ ap departure_end r)

@@ -12,9 +12,9 @@ use lib.ListN.{length, get_or, take, drop, drop_of_length-le, length-drop}
 use lib.Seq.{drop-cons, take_all}
 use borrow.Author.Tests.{not-true, not-false, le-leb, lt-leb, lt-ltb, le-ltb, eq-eqb, ne_eqb}
 use Rattle.journeys.proofs.Tests.{Outcome, holds, fails, eq_outcome}
-use Rattle.words.specs.Layout.{is_of}
-use Rattle.words.specs.Words.{count_layout, interval_layout, unused_layout, interval_of, rows_of}
-use Rattle.rules.specs.Checks.{row_well_formed, row_well_formed_in, rows_well_formed, rows_well_formed_in, all_unused, cell_well_formed, cell_well_formed_in}
+use Rattle.words.specs.Layout.{get, is_of}
+use Rattle.words.specs.Words.{count_layout, rows_field, interval_layout, departure_field, arrival_field, unused_layout}
+use Rattle.rules.specs.Checks.{row_well_formed, rows_well_formed, all_unused, cell_well_formed}
 
 -- A test that a function ran and found false is false.
 pub stopped : {r b : Bool} → r ≡ b → not r ≡ true → b ≡ false
@@ -28,38 +28,38 @@ passed e h = sym e ∙ not-false _ h
 
 -- The departure and the arrival that a word says.
 abbrev dep : ℕ → ℕ
-dep w = (interval_of w).departure
+dep w = get departure_field w
 
 abbrev arr : ℕ → ℕ
-arr w = (interval_of w).arrival
+arr w = get arrival_field w
 
 module _ (τ δ p q w : ℕ) where
   -- A word that is no interval is no row.
   pub row-kind : is_of interval_layout w ≡ false → row_well_formed τ δ p q w ≡ false
-  unfolding row_well_formed_in
+  unfolding row_well_formed
   row-kind e = rw e refl
 
   module _ (e : is_of interval_layout w ≡ true) where
     -- Nor is one that does not depart after p.
     pub row-departs : dep w ≤ p → row_well_formed τ δ p q w ≡ false
-    unfolding row_well_formed_in
+    unfolding row_well_formed
     row-departs h = rw (e, le-ltb p (dep w) h) refl
 
     module _ (d : p < dep w) where
       -- Nor is one that does not arrive after q.
       pub row-arrives : arr w ≤ q → row_well_formed τ δ p q w ≡ false
-      unfolding row_well_formed_in
+      unfolding row_well_formed
       row-arrives h = rw (e, lt-ltb p (dep w) d, le-ltb q (arr w) h) refl
 
       module _ (a : q < arr w) where
         -- Nor is one that arrives before departure + δ.
         pub row-soon : arr w < dep w + δ → row_well_formed τ δ p q w ≡ false
-        unfolding row_well_formed_in
+        unfolding row_well_formed
         row-soon h = rw (e, lt-ltb p (dep w) d, lt-ltb q (arr w) a, lt-leb (dep w + δ) (arr w) h, and-false (leb (dep w) τ)) refl
 
         -- Any other is a row exactly when it arrives at τ + δ or before: its departure is then at most τ.
         pub row_last : (b : Bool) → dep w + δ ≤ arr w → (b ≡ true → arr w ≤ τ + δ) → (b ≡ false → τ + δ < arr w) → b ≡ row_well_formed τ δ p q w
-        unfolding row_well_formed_in
+        unfolding row_well_formed
         row_last true h t f =
             let k : arr w ≤ τ + δ = t refl in
             rw (e, lt-ltb p (dep w) d, lt-ltb q (arr w) a, le-leb (dep w) τ (omega arith), le-leb (dep w + δ) (arr w) h, le-leb (arr w) (τ + δ) k) refl
@@ -71,18 +71,18 @@ module _ (τ δ p q w : ℕ) where
 module _ (τ δ p q : ℕ) (ws : List ℕ) (i : ℕ) {r : Bool} (left : rows_well_formed τ δ p q (drop i ws) ≡ r) where
   -- A fine row is passed.
   pub rows-turn : {b : Bool} → i < length ws → b ≡ row_well_formed τ δ p q (get_or ws i 0) → not b ≡ false
-      → rows_well_formed τ δ (interval_of (get_or ws i 0)).departure (interval_of (get_or ws i 0)).arrival (drop (i + 1) ws) ≡ r
-  unfolding rows_well_formed_in
+      → rows_well_formed τ δ (get departure_field (get_or ws i 0)) (get arrival_field (get_or ws i 0)) (drop (i + 1) ws) ≡ r
+  unfolding rows_well_formed
   rows-turn h f n = let e : row_well_formed τ δ p q (get_or ws i 0) ≡ true = passed f n in rw (add-one i) (rw (drop-cons ws i 0, e) at left)
 
   -- Any other ends the check.
   pub rows-stop : {b : Bool} → i < length ws → b ≡ row_well_formed τ δ p q (get_or ws i 0) → not b ≡ true → false ≡ r
-  unfolding rows_well_formed_in
+  unfolding rows_well_formed
   rows-stop h f n = let e : row_well_formed τ δ p q (get_or ws i 0) ≡ false = stopped f n in rw (drop-cons ws i 0, e) at left
 
   -- No row is left to check.
   pub rows_end : length ws ≤ i → true ≡ r
-  unfolding rows_well_formed_in
+  unfolding rows_well_formed
   rows_end h = rw (drop_of_length-le ws h) at left
 
 -- ---- the unused words
@@ -116,12 +116,12 @@ module _ (ws : List ℕ) (i x : ℕ) {r : Bool} (left : (is_of unused_layout x &
 cell_parts : (τ δ m : ℕ) (xs : List ℕ) → 1 ≤ length xs
     → cell_well_formed τ δ m xs
     ≡ (is_of count_layout (get_or xs 0 0)
-    && leb (rows_of (get_or xs 0 0)) m
-    && rows_well_formed τ δ 0 0 (take (rows_of (get_or xs 0 0)) (drop 1 xs))
-    && all_unused (drop (rows_of (get_or xs 0 0) + 1) xs))
-unfolding cell_well_formed_in
+    && leb (get rows_field (get_or xs 0 0)) m
+    && rows_well_formed τ δ 0 0 (take (get rows_field (get_or xs 0 0)) (drop 1 xs))
+    && all_unused (drop (get rows_field (get_or xs 0 0) + 1) xs))
+unfolding cell_well_formed
 cell_parts τ δ m [] l = absurd (omega arith)
-cell_parts τ δ m (w ∷ ws) l = rw (add-one (rows_of w)) refl
+cell_parts τ δ m (w ∷ ws) l = rw (add-one (get rows_field w)) refl
 
 module _ (τ δ m : ℕ) (xs : List ℕ) (l : 1 ≤ length xs) where
   -- Words that do not begin with a count are no cell.
@@ -130,25 +130,25 @@ module _ (τ δ m : ℕ) (xs : List ℕ) (l : 1 ≤ length xs) where
 
   module _ (e : is_of count_layout (get_or xs 0 0) ≡ true) where
     -- Nor are those whose count is more than m.
-    pub cell-many : m < rows_of (get_or xs 0 0) → cell_well_formed τ δ m xs ≡ false
-    cell-many h = cell_parts τ δ m xs l ∙ rw (e, lt-leb (rows_of (get_or xs 0 0)) m h) refl
+    pub cell-many : m < get rows_field (get_or xs 0 0) → cell_well_formed τ δ m xs ≡ false
+    cell-many h = cell_parts τ δ m xs l ∙ rw (e, lt-leb (get rows_field (get_or xs 0 0)) m h) refl
 
-    module _ (end : ℕ) (k : end ≡ rows_of (get_or xs 0 0) + 1) (h : rows_of (get_or xs 0 0) ≤ m) where
+    module _ (end : ℕ) (k : end ≡ get rows_field (get_or xs 0 0) + 1) (h : get rows_field (get_or xs 0 0) ≤ m) where
       -- The rows lent as cell[1..end] are those in use.
-      part-rows : take (end - 1) (drop 1 xs) ≡ take (rows_of (get_or xs 0 0)) (drop 1 xs)
-      part-rows = let q : end - 1 ≡ rows_of (get_or xs 0 0) = omega arith in ap (λ (n : ℕ). take n (drop 1 xs)) q
+      part-rows : take (end - 1) (drop 1 xs) ≡ take (get rows_field (get_or xs 0 0)) (drop 1 xs)
+      part-rows = let q : end - 1 ≡ get rows_field (get_or xs 0 0) = omega arith in ap (λ (n : ℕ). take n (drop 1 xs)) q
 
       -- Nor are those whose rows in use are not fine.
       pub cell-rows : rows_well_formed τ δ 0 0 (take (end - 1) (drop 1 xs)) ≡ false → cell_well_formed τ δ m xs ≡ false
       cell-rows f =
-          let g : rows_well_formed τ δ 0 0 (take (rows_of (get_or xs 0 0)) (drop 1 xs)) ≡ false = rw part-rows at f in
-          cell_parts τ δ m xs l ∙ rw (e, le-leb (rows_of (get_or xs 0 0)) m h, g) refl
+          let g : rows_well_formed τ δ 0 0 (take (get rows_field (get_or xs 0 0)) (drop 1 xs)) ≡ false = rw part-rows at f in
+          cell_parts τ δ m xs l ∙ rw (e, le-leb (get rows_field (get_or xs 0 0)) m h, g) refl
 
       -- Any other are a cell exactly when the rest, lent as cell[end..], is unused.
       pub cell-rest : rows_well_formed τ δ 0 0 (take (end - 1) (drop 1 xs)) ≡ true
           → cell_well_formed τ δ m xs ≡ all_unused (take (length xs - end) (drop end xs))
       cell-rest f =
-          let g : rows_well_formed τ δ 0 0 (take (rows_of (get_or xs 0 0)) (drop 1 xs)) ≡ true = rw part-rows at f in
+          let g : rows_well_formed τ δ 0 0 (take (get rows_field (get_or xs 0 0)) (drop 1 xs)) ≡ true = rw part-rows at f in
           cell_parts τ δ m xs l
-          ∙ rw (e, le-leb (rows_of (get_or xs 0 0)) m h, g)
+          ∙ rw (e, le-leb (get rows_field (get_or xs 0 0)) m h, g)
           (ap all_unused (ap (λ (n : ℕ). drop n xs) (sym k) ∙ sym (take_all (length xs - end) (drop end xs) (le_of_eq (length-drop end xs)))))

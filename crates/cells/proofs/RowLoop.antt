@@ -8,7 +8,7 @@ use lib.ListN.{length, get_or, take, drop, length-map, length-take, drop_of_leng
 use lib.Seq.{drop-cons, get_or-take, length-take-le}
 use Rattle.journeys.specs.Cell.{Cell}
 use Rattle.words.specs.Words.{interval_of}
-use Rattle.rules.specs.Layout.{cell_of, cell_of_in}
+use Rattle.rules.specs.Layout.{cell_of}
 use Rattle.cells.specs.Stored.{rows_in, RowsFit}
 
 -- The intervals of the rows from i on, of those that end at e.
@@ -25,7 +25,7 @@ pub rows-begin : (xs : List ℕ) (k : ℕ) → k ≡ rows_in xs → RowsFit xs �
 rows-begin xs k e h = record { below = omega arith; inside = omega arith }
 
 pub rows_all : (xs : List ℕ) (k : ℕ) → k ≡ rows_in xs → RowsFit xs → rows_from xs (k + 1) 1 ≡ cell_of xs
-unfolding rows_from cell_of_in
+unfolding rows_from cell_of
 rows_all xs k e h = ap (λ (n : ℕ). map interval_of (drop 1 (take (n + 1) xs))) e ∙ go xs h
   where
     go : (ys : List ℕ) → RowsFit ys → map interval_of (drop 1 (take (rows_in ys + 1) ys)) ≡ cell_of ys
@@ -51,6 +51,6 @@ module _ {xs : List ℕ} {e i : ℕ} (w : RowLoop xs e i) where
 
 -- A cell has as many intervals as rows in use.
 pub rows-count : (xs : List ℕ) → RowsFit xs → length (cell_of xs) ≡ rows_in xs
-unfolding cell_of_in
+unfolding cell_of
 rows-count [] h = absurd (omega arith)
 rows-count (w ∷ ws) h = length-map (take (rows_in (w ∷ ws)) ws) interval_of ∙ length-take-le (rows_in (w ∷ ws)) ws (omega arith)

@@ -15,7 +15,8 @@ use Rattle.journeys.specs.Cell.{Cell, Rising, latest_departing, earliest_arrivin
 use Rattle.journeys.proofs.Tests.{never, Outcome, holds, fails, same_outcome, lt_outcome, inside-outcome}
 use Rattle.journeys.proofs.First.{FirstOf, nothing-asked, first-asked, DepartsFrom, ArrivesNoLater, earliest-arriving}
 use Rattle.journeys.proofs.Cover.{covers-find, covers-member, member-covers, rising-least, has_inside-outcome, interval-path}
-use Rattle.words.specs.Words.{interval_of, rows_of}
+use Rattle.words.specs.Layout.{get}
+use Rattle.words.specs.Words.{rows_field, departure_field, arrival_field, interval_of}
 use Rattle.rules.specs.Answers.{ends}
 use Rattle.rules.specs.Layout.{cell_of}
 use Rattle.rules.specs.Adding.{same_interval, stands}
@@ -41,13 +42,13 @@ module _ (c : Cell) (k : ℕ) where
   unfolding row_at
   row_behind_lem l = rw (le-ltb k (length c) l) refl
 
-module _ (xs : List ℕ) (s : RowsInUse xs) (n k : ℕ) (e : n ≡ rows_of (get_or xs 0 0)) where
+module _ (xs : List ℕ) (s : RowsInUse xs) (n k : ℕ) (e : n ≡ get rows_field (get_or xs 0 0)) where
   -- Behind the rows in use there is no row.
   pub row-missing : n ≤ k → Nothing ≡ row_at (cell_of xs) k
   row-missing l = sym (row_behind_lem (cell_of xs) k (omega (arith, in-use_length xs s)))
 
   -- Row k is the word at k + 1.
-  pub row_read : k < n → (d a : ℕ) → d ≡ (interval_of (get_or xs (k + 1) 0)).departure → a ≡ (interval_of (get_or xs (k + 1) 0)).arrival
+  pub row_read : k < n → (d a : ℕ) → d ≡ get departure_field (get_or xs (k + 1) 0) → a ≡ get arrival_field (get_or xs (k + 1) 0)
       → At (record { index = k; ends = record { departure = d; arrival = a } }) ≡ row_at (cell_of xs) k
   row_read l d a p q =
       let h : k < length (cell_of xs) = omega (arith, in-use_length xs s) in

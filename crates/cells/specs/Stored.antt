@@ -4,7 +4,8 @@ use Rattle.std.proofs.Math.Option.{Option, none, some}
 use mathlib.Core.List.{List, [], ◌∷◌, Memᴰ}
 use Rattle.journeys.specs.Journey.{Interval}
 use Rattle.journeys.specs.Cell.{Cell, Rising}
-use Rattle.words.specs.Words.{rows_of}
+use Rattle.words.specs.Layout.{get}
+use Rattle.words.specs.Words.{rows_field}
 use Rattle.rules.specs.Limits.{max_arrival, max_cell_words}
 use Rattle.rules.specs.Layout.{cell_words, cell_of}
 
@@ -20,7 +21,7 @@ pub record Stored (xs : List ℕ) : Type 0 where
 
 -- How many rows are in use, as the cell's first word says.
 abbrev pub rows_in : List ℕ → ℕ
-rows_in cell = rows_of (get_or cell 0 0)
+rows_in cell = get rows_field (get_or cell 0 0)
 
 -- The rows in use end within the cell.
 abbrev pub RowsFit : List ℕ → Type 0

@@ -2,7 +2,8 @@
 ghost use Rattle.std.specs.Prelude.{◌≡◌, ◌+◌, ◌≤◌, map, length, get_or};
 ghost use Rattle.journeys.specs.Journey.{interval};
 ghost use Rattle.journeys.specs.Cell.{Rising, latest_departure, earliest_arrival, has_inside};
-ghost use Rattle.words.specs.Words.{interval_of, rows_of};
+ghost use Rattle.words.specs.Layout.{get};
+ghost use Rattle.words.specs.Words.{rows_field, interval_of};
 ghost use Rattle.rules.specs.Layout.{cell_of};
 ghost use Rattle.rules.specs.Adding.{stands};
 ghost use Rattle.rules.specs.Windows.{widest, fits_window};
@@ -64,7 +65,7 @@ pub enum RowFound {
 // The index in the cell after its rows in use.
 fn rows_end(cell: &[u32]) -> usize
     requires { RowsInUse cell.now }
-    ensures { (result ≡ rows_of (get_or cell.now 0 0) + 1) × (result ≤ length cell.now) }
+    ensures { (result ≡ get rows_field (get_or cell.now 0 0) + 1) × (result ≤ length cell.now) }
 {
     words::rows_of(cell[0]) as usize + 1
 }

@@ -10,8 +10,8 @@ use lib.ListN.{length, get_or, drop, drop_of_length-le}
 use lib.Seq.{drop-cons}
 use borrow.Author.Tests.{le-leb, lt-leb, lt-ltb, le-ltb, eq-eqb, ne_eqb}
 use Rattle.journeys.specs.Journey.{contact}
-use Rattle.words.specs.Layout.{is_of}
-use Rattle.words.specs.Words.{contact_layout, contact_of}
+use Rattle.words.specs.Layout.{get, is_of}
+use Rattle.words.specs.Words.{contact_layout, from_field, to_field, tick_field, contact_of}
 use Rattle.rules.specs.Folds.{within}
 use Rattle.rules.specs.Layout.{animals, carry}
 use Rattle.rules.specs.Adding.{holds}
@@ -25,9 +25,9 @@ use Rattle.claims.specs.Following.{follows}
 -- What is read off the table and the word: the number of animals, and the word's contact.
 pub record WordRead (T : List ℕ) (w n u v t : ℕ) : Type 0 where
   pub animals-read : n ≡ animals T
-  pub from-read : u ≡ (contact_of w).from
-  pub to_read : v ≡ (contact_of w).to
-  pub tick-read : t ≡ (contact_of w).tick
+  pub from-read : u ≡ get from_field w
+  pub to_read : v ≡ get to_field w
+  pub tick-read : t ≡ get tick_field w + 1
 
 module _ {T : List ℕ} {w n u v t : ℕ} (r : WordRead T w n u v t) {k : Bool} (e : k ≡ is_of contact_layout w) where
   -- A word that is no contact word is not held.
@@ -37,10 +37,10 @@ module _ {T : List ℕ} {w n u v t : ℕ} (r : WordRead T w n u v t) {k : Bool} 
 
   module _ (h : not k ≡ false) where
     -- The test of the animal that the contact leaves, and of the one that it meets.
-    from-test : ltb (contact_of w).from (animals T) ≡ ltb u n
+    from-test : ltb (get from_field w) (animals T) ≡ ltb u n
     from-test = ap₂ ltb (sym r.from-read) (sym r.animals-read)
 
-    to-test : ltb (contact_of w).to (animals T) ≡ ltb v n
+    to-test : ltb (get to_field w) (animals T) ≡ ltb v n
     to-test = ap₂ ltb (sym r.to_read) (sym r.animals-read)
 
     -- Nor is one that leaves an animal n or above.
@@ -58,7 +58,7 @@ module _ {T : List ℕ} {w n u v t : ℕ} (r : WordRead T w n u v t) {k : Bool} 
     unfolding held_word
     held-is q s f = f ∙ rw (passed e h, from-test ∙ lt-ltb u n q, to-test ∙ lt-ltb v n s, r.from-read, r.to_read, r.tick-read) refl
 
-module _ (w first last t : ℕ) (et : t ≡ (contact_of w).tick) where
+module _ (w first last t : ℕ) (et : t ≡ get tick_field w + 1) where
   -- A contact at or after first lies in the window exactly when it comes no later than last.
   pub window_from : first ≤ t → leb t last ≡ in_window first last (contact_of w)
   window_from h = ap (λ (b : Bool). b && leb t last) (sym (le-leb first t h)) ∙ ap (λ (i : ℕ). within first i last) et
@@ -69,30 +69,30 @@ module _ (w first last t : ℕ) (et : t ≡ (contact_of w).tick) where
 
 module _ (T : List ℕ) (w first last x a : ℕ) where
   -- A word that leaves another animal than x does not go on.
-  pub goes-elsewhere : (u : ℕ) → u ≡ (contact_of w).from → (u ≡ x → ⊥) → false ≡ goes_on T first last x a w
+  pub goes-elsewhere : (u : ℕ) → u ≡ get from_field w → (u ≡ x → ⊥) → false ≡ goes_on T first last x a w
   unfolding goes_on
   goes-elsewhere u eu h =
-      let p : eqb (contact_of w).from x ≡ false = ap (λ (i : ℕ). eqb i x) (sym eu) ∙ ne_eqb u x h in
+      let p : eqb (get from_field w) x ≡ false = ap (λ (i : ℕ). eqb i x) (sym eu) ∙ ne_eqb u x h in
       rw (p, and-false (held_word T w && in_window first last (contact_of w))) refl
 
   -- Nor does one that leaves before a.
-  pub goes-early : (t : ℕ) → t ≡ (contact_of w).tick → t < a → false ≡ goes_on T first last x a w
+  pub goes-early : (t : ℕ) → t ≡ get tick_field w + 1 → t < a → false ≡ goes_on T first last x a w
   unfolding goes_on
   goes-early t et h =
-      let p : leb a (contact_of w).tick ≡ false = ap (leb a) (sym et) ∙ lt-leb a t h in
-      rw (p, and-false (eqb (contact_of w).from x), and-false (held_word T w && in_window first last (contact_of w))) refl
+      let p : leb a (get tick_field w + 1) ≡ false = ap (leb a) (sym et) ∙ lt-leb a t h in
+      rw (p, and-false (eqb (get from_field w) x), and-false (held_word T w && in_window first last (contact_of w))) refl
 
   -- Nor does one that lies outside the window.
   pub goes-outside : {i : Bool} → i ≡ in_window first last (contact_of w) → not i ≡ true → false ≡ goes_on T first last x a w
   unfolding goes_on
   goes-outside e n = rw (stopped e n, and-false (held_word T w)) refl
 
-  module _ (u t : ℕ) (eu : u ≡ (contact_of w).from) (et : t ≡ (contact_of w).tick) (h : u ≡ x) (k : a ≤ t) {i : Bool} (e : i ≡ in_window first last (contact_of w)) where
+  module _ (u t : ℕ) (eu : u ≡ get from_field w) (et : t ≡ get tick_field w + 1) (h : u ≡ x) (k : a ≤ t) {i : Bool} (e : i ≡ in_window first last (contact_of w)) where
     -- It leaves x in time.
     leaves : leaves_from x a (contact_of w) ≡ true
     leaves =
-        let p : eqb (contact_of w).from x ≡ true = ap (λ (i : ℕ). eqb i x) (sym eu) ∙ eq-eqb u x h in
-        let q : leb a (contact_of w).tick ≡ true = ap (leb a) (sym et) ∙ le-leb a t k in
+        let p : eqb (get from_field w) x ≡ true = ap (λ (i : ℕ). eqb i x) (sym eu) ∙ eq-eqb u x h in
+        let q : leb a (get tick_field w + 1) ≡ true = ap (leb a) (sym et) ∙ le-leb a t k in
         rw (p, q) refl
 
     -- Any other goes on exactly when it is held.
@@ -105,7 +105,7 @@ module _ (T : List ℕ) (w first last x a : ℕ) where
 module _ (T : List ℕ) (v first last x a : ℕ) (ws : List ℕ) (i : ℕ) {r : Bool} (left : follows T v first last x a (drop i ws) ≡ r) where
   -- A word that goes on is passed.
   pub follows-turn : {b : Bool} (y t δ : ℕ) → i < length ws → b ≡ goes_on T first last x a (get_or ws i 0) → not b ≡ false
-      → y ≡ (contact_of (get_or ws i 0)).to → t ≡ (contact_of (get_or ws i 0)).tick → δ ≡ carry T
+      → y ≡ get to_field (get_or ws i 0) → t ≡ get tick_field (get_or ws i 0) + 1 → δ ≡ carry T
       → follows T v first last y (t + δ) (drop (i + 1) ws) ≡ r
   unfolding follows
   follows-turn y t δ h f n ey et eδ =

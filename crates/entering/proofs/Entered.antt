@@ -12,9 +12,10 @@ use Rattle.journeys.specs.Journey.{Interval, interval}
 use Rattle.journeys.specs.Cell.{Cell, has_inside, enter}
 use Rattle.journeys.proofs.Cover.{departure-path}
 use Rattle.journeys.proofs.Enter.{enter-members, enter-rising}
-use Rattle.words.specs.Words.{count_word, interval_word, rows_of}
+use Rattle.words.specs.Layout.{get}
+use Rattle.words.specs.Words.{count_word, rows_field, interval_word}
 use Rattle.rules.specs.Limits.{max_cell_words}
-use Rattle.rules.specs.Layout.{cell_words, cell_words_in, cell_of}
+use Rattle.rules.specs.Layout.{cell_words, cell_of}
 use Rattle.cells.specs.Stored.{Stored, departure_end, arrival_end, front_below}
 use Rattle.cells.proofs.Search.{departure-follows, front_length}
 use Rattle.cells.proofs.Lent.{count-is, count_fits}
@@ -65,7 +66,7 @@ behind-length xs = ap length (behind-is xs) ∙ length-drop 1 xs
 module _ (xs : List ℕ) (S : Stored xs) where
   -- The rows are the words of the cell's intervals, and unused words.
   rows_are : drop 1 xs ≡ map interval_word (cell_of xs) ++ unused (length xs - 1 - length (cell_of xs))
-  unfolding cell_words_in
+  unfolding cell_words
   rows_are = ap (λ (l : List ℕ). drop 1 l) S.words
 
   -- The same, with the unused words counted from the rows' words.
@@ -74,7 +75,7 @@ module _ (xs : List ℕ) (S : Stored xs) where
   rows-padded = rows_are ∙ ap (λ (k : ℕ). map interval_word (cell_of xs) ++ unused (length xs - 1 - k)) (sym (length-map (cell_of xs) interval_word))
 
   -- The rows in use are the words of the cell's intervals.
-  used_are : (n : ℕ) → n ≡ rows_of (get_or xs 0 0) → take n (behind xs) ≡ map interval_word (cell_of xs)
+  used_are : (n : ℕ) → n ≡ get rows_field (get_or xs 0 0) → take n (behind xs) ≡ map interval_word (cell_of xs)
   used_are n en =
       ap (take n) (behind-is xs ∙ rows_are)
       ∙ take_at (map interval_word (cell_of xs)) (unused (length xs - 1 - length (cell_of xs))) n (length-map (cell_of xs) interval_word ∙ sym (en ∙ count-is xs S))
@@ -107,7 +108,7 @@ room xs i S l m = rows-within (length xs - 1) (enter i (cell_of xs)) (enter-risi
         (enter-members i (cell_of xs) k)
 
 -- Where no interval lies inside [d, a], the searches for its place found where it goes.
-pub goes : (xs : List ℕ) (d a n lo hi : ℕ) → Stored xs → n ≡ rows_of (get_or xs 0 0) → 1 ≤ d → d < length xs
+pub goes : (xs : List ℕ) (d a n lo hi : ℕ) → Stored xs → n ≡ get rows_field (get_or xs 0 0) → 1 ≤ d → d < length xs
     → has_inside (interval d a) (cell_of xs) ≡ false
     → lo ≡ front_below arrival_end a (cell_of xs) → hi ≡ front_below departure_end (d + 1) (cell_of xs) → Goes xs d a n lo hi
 goes xs d a n lo hi S en d₁ d₂ e el eh =
@@ -129,7 +130,7 @@ goes xs d a n lo hi S en d₁ d₂ e el eh =
       new = e;
     }
 
-module _ (xs : List ℕ) (d a n lo hi : ℕ) (S : Stored xs) (en : n ≡ rows_of (get_or xs 0 0)) (g : Goes xs d a n lo hi) where
+module _ (xs : List ℕ) (d a n lo hi : ℕ) (S : Stored xs) (en : n ≡ get rows_field (get_or xs 0 0)) (g : Goes xs d a n lo hi) where
   -- The lent rows are as the replacing asks.
   pub ready : ((lo ≤ hi) × (hi ≤ n) × (n ≤ length (behind xs)) × (lo + 1 + (n - hi) ≤ length (behind xs)))
       × (behind xs ≡ padded (length (behind xs)) (take n (behind xs)))
@@ -141,7 +142,7 @@ module _ (xs : List ℕ) (d a n lo hi : ℕ) (S : Stored xs) (en : n ≡ rows_of
   pub entered : (ys : List ℕ) (w v : ℕ) → w ≡ interval_word (interval d a) → ys ≡ padded (length (behind xs)) (spliced (take n (behind xs)) lo hi w)
       → v ≡ count_word (lo + 1 + (n - hi))
       → set (take 1 xs ++ (ys ++ drop (length xs - 1) (drop 1 xs))) 0 v ≡ cell_words (length xs - 1) (enter (interval d a) (cell_of xs))
-  unfolding padded cell_words_in
+  unfolding padded cell_words
   entered ys w v ew ey ev = put_first xs ys v S.long ∙ ap₂ ◌∷◌ (ev ∙ ap count_word (sym g.count)) rest
     where
       new : Cell

@@ -12,7 +12,8 @@ use Rattle.journeys.specs.Cell.{Cell, Rising, inside, has_inside}
 use Rattle.cells.specs.declared.Row.{Row}
 use Rattle.cells.specs.declared.RowFound.{RowFound}
 use Rattle.cells.specs.declared.RowFound.TheVariants.{At, Nothing}
-use Rattle.words.specs.Words.{interval_of}
+use Rattle.words.specs.Layout.{get}
+use Rattle.words.specs.Words.{arrival_field, interval_of}
 use Rattle.rules.specs.Layout.{cell_of}
 use Rattle.cells.specs.Stored.{RowsInUse, departure_end, arrival_end, front_below}
 use Rattle.cells.specs.Rows.{first_departing, interval_found}
@@ -26,16 +27,16 @@ use Rattle.entering.proofs.Splice.{arrive_le}
 
 module _ (xs : List ℕ) (s : RowsInUse xs) (a : ℕ) where
   -- The arrival of row k is read off the word behind it.
-  arrival-read : (k : ℕ) → k < length (cell_of xs) → (get_or (cell_of xs) k (interval_of 0)).arrival ≡ (interval_of (get_or xs (suc k) 0)).arrival
+  arrival-read : (k : ℕ) → k < length (cell_of xs) → (get_or (cell_of xs) k (interval_of 0)).arrival ≡ get arrival_field (get_or xs (suc k) 0)
   arrival-read k l = ap arrival_end (row_is xs k l) ∙ rw (add-one k) refl
 
   -- Where the row before lo arrives before a, so do all rows before lo.
-  pub step-stops : (lo : ℕ) → 0 < lo → lo ≤ length (cell_of xs) → (interval_of (get_or xs lo 0)).arrival < a → lo ≤ front_below arrival_end a (cell_of xs)
+  pub step-stops : (lo : ℕ) → 0 < lo → lo ≤ length (cell_of xs) → get arrival_field (get_or xs lo 0) < a → lo ≤ front_below arrival_end a (cell_of xs)
   step-stops zero p l h = absurd (omega arith)
   step-stops (suc k) p l h = front-gt arrival_end a arrival-follows (cell_of xs) k (interval_of 0) s.rising l (rw (arrival-read k l) h)
 
   -- Else the rows from it on arrive at or after a.
-  pub step-goes : (lo : ℕ) → 0 < lo → lo ≤ length (cell_of xs) → a ≤ (interval_of (get_or xs lo 0)).arrival → front_below arrival_end a (cell_of xs) ≤ lo - 1
+  pub step-goes : (lo : ℕ) → 0 < lo → lo ≤ length (cell_of xs) → a ≤ get arrival_field (get_or xs lo 0) → front_below arrival_end a (cell_of xs) ≤ lo - 1
   step-goes zero p l h = absurd (omega arith)
   step-goes (suc k) p l h = omega (arith, front-le arrival_end a (cell_of xs) k (interval_of 0) l (rw (arrival-read k l) h))
 

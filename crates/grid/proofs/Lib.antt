@@ -4,4 +4,3 @@ pub mod Reading
 pub mod Walk
 pub mod Flat
 pub mod Steps
-pub mod CellTests

@@ -8,7 +8,6 @@ ghost use Rattle.rules.specs.Adding.{add_answer, add_leaves};
 ghost use Rattle.rules.specs.Logs.{write_answer, write_leaves};
 ghost use Rattle.rules.specs.Reading.{read_answer, read_leaves};
 ghost use Rattle.rules.specs.Removing.{remove_answer, remove_leaves, remove_work};
-ghost use Rattle.rules.specs.CarryingOver.{carry_over_answer, carry_over_leaves};
 ghost use Rattle.rules.specs.Joining.{join_answer, join_leaves};
 ghost use Rattle.rules.specs.Stays.{stays_answer, stays_leaves};
 ghost use Rattle.rules.specs.Questions.{reach_answer, earliest_answer, latest_answer, connected_answer, reached_answer, reached_count, reached_leaves};
@@ -77,15 +76,6 @@ pub extern "C" fn herd_write_log(table: &[u32], buffer: &mut [u32]) -> u64
     ensures buffer_after { buffer.new ≡ write_leaves table.now buffer.old }
 {
     replies::of_write(engine::write_log(table, buffer))
-}
-
-// Carries a table of the old format over into one of the new: 1 done, 0 refused.
-#[unsafe(no_mangle)]
-pub extern "C" fn herd_carry_over(old: &[u32], new: &mut [u32]) -> u64
-    ensures value { result ≡ done_reply (carry_over_answer old.now new.old) }
-    ensures after { new.new ≡ carry_over_leaves old.now new.old }
-{
-    replies::of_done(carrying_over::carry_over(old, new))
 }
 
 // Asks whether v can have been reached from u in a window: 1 yes, 2 no, 0 refused.

@@ -9,12 +9,12 @@ use native.Mathlib.Omega.{arith}
 use lib.ListN.{length, get_or, take, drop, length-drop}
 use lib.Seq.{drop-cons}
 use Rattle.journeys.specs.Journey.{contact}
-use Rattle.words.specs.Layout.{is_of}
-use Rattle.words.specs.Words.{contact_layout, contact_of}
+use Rattle.words.specs.Layout.{get, is_of}
+use Rattle.words.specs.Words.{contact_layout, contact_of, from_field, to_field, tick_field}
 use Rattle.rules.specs.declared.Refusal.TheVariants.{NotAContact, IllegalContact}
 use Rattle.rules.specs.declared.LogWord.{LogWord}
 use Rattle.rules.specs.declared.LogWord.TheVariants.{Legal, NoContact, NotLegal}
-use Rattle.rules.specs.Reading.{between, is_legal, log_word, log_word_in, ensure_legal, ensure_words, ensure_words_in}
+use Rattle.rules.specs.Reading.{between, is_legal, log_word, ensure_legal, ensure_words}
 use Rattle.cell_checks.proofs.Checks.{stopped, passed}
 use Rattle.checks.specs.declared.Verdict.TheVariants.{Passed, Refused}
 use Rattle.checks.specs.Verdicts.{verdict_of}
@@ -23,24 +23,24 @@ use Rattle.rules.proofs.Groups.{Group, both-groups, none-is_not_some, some-is_no
 -- ---- one word
 
 -- The contact of a word, from its fields as they were read.
-contact-read : (w : ℕ) {u v t : ℕ} → u ≡ (contact_of w).from → v ≡ (contact_of w).to → t ≡ (contact_of w).tick → contact u v t ≡ contact_of w
+contact-read : (w : ℕ) {u v t : ℕ} → u ≡ get from_field w → v ≡ get to_field w → t ≡ get tick_field w + 1 → contact u v t ≡ contact_of w
 contact-read w p q r = cc
 
 module _ (n τ w : ℕ) {a : Bool} (e : a ≡ is_of contact_layout w) where
   pub word-other : not a ≡ true → NoContact ≡ log_word n τ w
-  unfolding log_word_in
+  unfolding log_word
   word-other h = rw (stopped e h) refl
 
-  module _ (h : not a ≡ false) {u v t : ℕ} (p : u ≡ (contact_of w).from) (q : v ≡ (contact_of w).to) (r : t ≡ (contact_of w).tick) {b : Bool} (f : b ≡ is_legal n τ (contact u v t)) where
+  module _ (h : not a ≡ false) {u v t : ℕ} (p : u ≡ get from_field w) (q : v ≡ get to_field w) (r : t ≡ get tick_field w + 1) {b : Bool} (f : b ≡ is_legal n τ (contact u v t)) where
     legal-is : b ≡ is_legal n τ (contact_of w)
     legal-is = f ∙ ap (is_legal n τ) (contact-read w p q r)
 
     pub word-legal : b ≡ true → Legal ≡ log_word n τ w
-    unfolding log_word_in
+    unfolding log_word
     word-legal k = rw (passed e h, sym legal-is ∙ k) refl
 
     pub word-not_legal : b ≡ false → NotLegal ≡ log_word n τ w
-    unfolding log_word_in
+    unfolding log_word
     word-not_legal k = rw (passed e h, sym legal-is ∙ k) refl
 
 -- ---- the words in turn
@@ -56,7 +56,7 @@ judging_start n τ ws = record { below = omega arith; left = refl }
 module _ {n τ : ℕ} {ws : List ℕ} {i : ℕ} (g : Judging n τ ws i) where
   module _ (h : i < length ws) {x : LogWord} (e : x ≡ log_word n τ (get_or ws i 0)) where
     turn : ensure_words n τ ws none ≡ ensure_legal x (ensure_words n τ (drop (suc i) ws) none)
-    unfolding ensure_words_in
+    unfolding ensure_words
     turn =
         sym g.left ∙ ap (λ (l : List ℕ). ensure_words n τ l none) (drop-cons ws i 0 h) ∙ ap (λ (y : LogWord). ensure_legal y (ensure_words n τ (drop (suc i) ws) none)) (sym e)
 
@@ -77,7 +77,7 @@ module _ {n τ : ℕ} {ws : List ℕ} {i : ℕ} (g : Judging n τ ws i) where
   judging_end h = ap verdict_of (sym (none_left (drop i ws) (omega (arith, length-drop i ws))) ∙ g.left)
     where
       none_left : (l : List ℕ) → length l ≤ 0 → ensure_words n τ l none ≡ none
-      none_left [] k = unfold ensure_words_in in refl
+      none_left [] k = unfold ensure_words in refl
       none_left (w ∷ l) k = absurd (omega arith)
 
 legal-group : (x : LogWord) → Group (ensure_legal x)
@@ -87,7 +87,7 @@ legal-group NotLegal = record { refuses = λ r e o. e; passes = λ e o. some-is_
 
 -- The checks of all words are a group.
 pub words-group : (n τ : ℕ) (ws : List ℕ) → Group (ensure_words n τ ws)
-unfolding ensure_words_in
+unfolding ensure_words
 words-group n τ [] = record { refuses = λ r e o. none-is_not_some e; passes = λ e o. refl }
 words-group n τ (w ∷ ws) = both-groups (legal-group (log_word n τ w)) (words-group n τ ws)
 

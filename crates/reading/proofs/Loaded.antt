@@ -2,22 +2,22 @@
 use mathlib.Core.Path.{◌≡◌, sym, ap, ◌∙◌, subst}
 use mathlib.Core.Option.{none}
 use mathlib.Core.List.{List, [], map, Memᴰ}
-use Prim.Native.Nat.{ℕ, ◌-◌, ◌≤◌}
+use Prim.Native.Nat.{ℕ, ◌-◌, ◌≤◌, ◌<◌}
 use native.Mathlib.Omega.{arith}
 use lib.ListN.{length, get_or, take, drop, replicate}
 use lib.Dec.{leb, eqb}
 use borrow.Author.Tests.{eqb-true, leb-true}
 use Rattle.journeys.specs.Journey.{Contact, In}
-use Rattle.words.specs.Layout.{is_of}
-use Rattle.words.specs.Words.{opening_layout, contact_of, end_layout, most_logged, animals_of, ticks_of, carry_of, logged_of}
-use Rattle.words.proofs.Packed.{logged_of-bound}
+use Rattle.words.specs.Layout.{capacity, get, is_of}
+use Rattle.words.specs.Words.{opening_layout, contact_of, end_layout, logged_field, animals_of, ticks_of, carry_of}
+use Rattle.words.proofs.Fields.{get-bound}
 use Rattle.rules.specs.Limits.{max_ticks}
 use Rattle.rules.specs.Layout.{table_length, table_words, animals, ticks, carry}
 use Rattle.rules.specs.Opening.{Sizes, no_intervals, open_refusal}
 use Rattle.rules.specs.Adding.{Legal}
 use Rattle.rules.specs.Fresh.{Fresh}
 use Rattle.rules.specs.CallLists.{table_with}
-use Rattle.rules.specs.Reading.{between, logged_contacts, logged_contacts_in, is_true_end_in, different, read_refusal}
+use Rattle.rules.specs.Reading.{between, logged_contacts, is_true_end, different, read_refusal}
 use Rattle.rules.proofs.Folds.{and_left, and_right, member-map}
 use Rattle.rules.proofs.Judged.{open_iff}
 use Rattle.rules.proofs.Decode.{table-animals, table-ticks, table-carry}
@@ -47,7 +47,7 @@ module _ (L T : List ℕ) (h : read_refusal L T ≡ none) (n τ δ : ℕ) (p : n
 module _ (L T : List ℕ) (h : read_refusal L T ≡ none) (end : ℕ) (s : end ≡ length L - 1) where
   -- The contacts of the words that are lent are those of the log.
   contacts-are : map contact_of (take (end - 1) (drop 1 L)) ≡ logged_contacts L
-  unfolding logged_contacts_in
+  unfolding logged_contacts
   contacts-are = ap (map contact_of) (between-lent L end s)
 
   -- They are counted.
@@ -55,16 +55,16 @@ module _ (L T : List ℕ) (h : read_refusal L T ≡ none) (end : ℕ) (s : end �
   log-counted c f = f ∙ ap different contacts-are
 
   -- Their number fits the field of an end word.
-  pub log-few : length (take (end - 1) (drop 1 L)) ≤ most_logged
-  unfolding is_true_end_in
+  pub log-few : length (take (end - 1) (drop 1 L)) < capacity logged_field
+  unfolding is_true_end
   log-few =
       let r = (read-iff L T).0 h in
-      let t = and_right (is_of end_layout (get_or L (length L - 1) 0)) (eqb (logged_of (get_or L (length L - 1) 0)) (length (between L))) r.true-end in
-      let c = eqb-true (logged_of (get_or L (length L - 1) 0)) (length (between L)) t in
-      omega (arith, c, logged_of-bound (get_or L (length L - 1) 0), ap length (between-lent L end s))
+      let t = and_right (is_of end_layout (get_or L (length L - 1) 0)) (eqb (get logged_field (get_or L (length L - 1) 0)) (length (between L))) r.true-end in
+      let c = eqb-true (get logged_field (get_or L (length L - 1) 0)) (length (between L)) t in
+      omega (arith, c, get-bound logged_field (get_or L (length L - 1) 0), ap length (between-lent L end s))
 
   legal : (k : Contact) → Memᴰ k (logged_contacts L) → Legal (animals L) (ticks L) k
-  unfolding logged_contacts_in
+  unfolding logged_contacts
   legal k m = let a = member-map contact_of (between L) k m in subst (Legal (animals L) (ticks L)) (sym a.2) (((read-iff L T).0 h).contacts a.0 a.1).1
 
   module _ (U : List ℕ) (e : U ≡ table_words (animals L) (ticks L) (carry L) no_intervals) where

@@ -11,7 +11,8 @@ use borrow.Author.Tests.{eq-eqb, ne_eqb}
 use Rattle.journeys.specs.Journey.{Contact, contact, In, Without, Same}
 use Rattle.journeys.proofs.Tests.{Outcome, holds, fails, eq_outcome}
 use Rattle.journeys.proofs.Cover.{departure-path}
-use Rattle.words.specs.Words.{interval_of}
+use Rattle.words.specs.Layout.{get}
+use Rattle.words.specs.Words.{departure_field, arrival_field, interval_of}
 use Rattle.rules.specs.Layout.{cell_of}
 use Rattle.rules.specs.Adding.{Legal}
 use Rattle.tables.specs.declared.Opening.{Opening}
@@ -31,7 +32,7 @@ use Rattle.removing.proofs.MarkedSets.{none-marked, one-marked, same-marked, Mar
 -- ---- one row
 
 -- A row's word w of cell (u, v), with departure d as it was read off it.
-module _ (o : Opening) (u v w d : ℕ) (p : d ≡ (interval_of w).departure) where
+module _ (o : Opening) (u v w d : ℕ) (p : d ≡ get departure_field w) where
   -- The contacts of the row.
   abbrev these : List Contact
   these = contacts_of o.carry u v w
@@ -48,7 +49,7 @@ module _ (o : Opening) (u v w d : ℕ) (p : d ≡ (interval_of w).departure) whe
   row-left_out e = none-marked (λ c h. h.1 (row-only c h.0 ∙ ap (contact u v) e))
 
   -- Its arrival a, as it was read off it too.
-  module _ (a : ℕ) (q : a ≡ (interval_of w).arrival) where
+  module _ (a : ℕ) (q : a ≡ get arrival_field w) where
     -- Nor has one that is longer than the carry time.
     pub row-longer : {except : ℕ} {heads body : List ℕ} → (a ≡ d + o.carry → ⊥) → MarksAll o (Without (In these) (contact u v except)) heads body heads body
     row-longer n = none-marked (λ c h. Memᴰ.not-nil (subst (Memᴰ c) (no-contact o.carry u v w d a p q n) h.0))

@@ -18,7 +18,7 @@ use Rattle.rules.specs.declared.SetAnswer.TheVariants.{Found}
 use Rattle.rules.specs.declared.Refusal.{Refusal}
 use Rattle.rules.specs.Answers.{unless}
 use Rattle.rules.specs.Folds.{flat, all_below, count_below}
-use Rattle.rules.specs.Layout.{carry, cell_at, cell_of, cells_of, cells_of_in}
+use Rattle.rules.specs.Layout.{carry, cell_at, cell_of, cells_of}
 use Rattle.rules.specs.Questions.{reaches, reach_answer, connects, connected_answer, is_reached, set_word, set_words, reached_refusal, reached_answer, reached_words, reached_count}
 use Rattle.rules.specs.Fresh.{Fresh}
 use Rattle.rules.specs.Orders.{Sorted}
@@ -60,7 +60,7 @@ module _ {n τ δ : ℕ} {S : Contacts} {T : List ℕ} (f : Fresh n τ δ S T) w
 
   -- The cell read by the table's numbers is that of the set.
   cell-read : (u v : ℕ) → IsPair n u v → cell_of (cell_at n τ T u v) ≡ f.cells u v
-  unfolding cells_of_in
+  unfolding cells_of
   cell-read u v p = rw (fresh-animals f, fresh-ticks f) at (cell-is u v p)
 
   pub stored : (u v : ℕ) → IsPair n u v → (i : Interval) → StoredIn n τ T u v i ↔ Minimal S δ u v i

@@ -8,7 +8,7 @@ use Rattle.rules.specs.declared.AddAnswer.TheVariants.{New, Known, Refused}
 use Rattle.rules.specs.declared.DoneAnswer.TheVariants.{Done, Refused as DoneRefused}
 use Rattle.rules.specs.declared.Tally.{Tally}
 use Rattle.words.specs.Layout.{is_of}
-use Rattle.rules.specs.Checks.{is_open_in}
+use Rattle.rules.specs.Checks.{is_open}
 use Rattle.rules.specs.Adding.{add_refusal, add_answer}
 use Rattle.rules.specs.Removing.{remove_refusal, remove_answer}
 use Rattle.rules.specs.Counting.{tally_sum, has_room, counted_answer, raised, counted_tally, counted_removal, raised_by_removal, counted_removal_tally}
@@ -60,18 +60,18 @@ full_removal_tally = refl
 
 -- With room for one more, 5 is answered.
 room-answer : counted_answer (tally 4294967291 1 1 1) [] c ≡ Refused NotOpen
-unfolding counted_answer has_room tally_sum add_answer add_refusal is_open_in is_of
+unfolding counted_answer has_room tally_sum add_answer add_refusal is_open is_of
 room-answer = refl
 
 room-removal : counted_removal (tally 4294967291 1 1 1) [] [] c ≡ DoneRefused NotOpen
-unfolding counted_removal has_room tally_sum remove_answer remove_refusal is_open_in is_of
+unfolding counted_removal has_room tally_sum remove_answer remove_refusal is_open is_of
 room-removal = refl
 
 -- It is counted.
 room-tally : counted_tally (tally 4294967291 1 1 1) [] c ≡ tally 4294967291 1 2 1
-unfolding counted_tally has_room tally_sum add_answer add_refusal is_open_in is_of
+unfolding counted_tally has_room tally_sum add_answer add_refusal is_open is_of
 room-tally = refl
 
 room-removal_tally : counted_removal_tally (tally 4294967291 1 1 1) [] [] c ≡ tally 4294967291 1 2 1
-unfolding counted_removal_tally has_room tally_sum remove_answer remove_refusal is_open_in is_of
+unfolding counted_removal_tally has_room tally_sum remove_answer remove_refusal is_open is_of
 room-removal_tally = refl

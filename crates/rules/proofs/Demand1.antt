@@ -31,11 +31,11 @@ use Rattle.rules.specs.Layout.{table_words, animals, ticks, carry, cells_of}
 use Rattle.rules.specs.Checks.{is_open, well_formed, ValidTable, WellFormedBelow, ensure_table}
 use Rattle.rules.specs.Opening.{open_refusal, open_answer, open_leaves}
 use Rattle.rules.specs.Adding.{Legal, ensure_pair, ensure_tick, add_refusal, added_cells, holds, cells_changed, add_answer, add_leaves}
-use Rattle.rules.specs.Logs.{held_contacts, log_words, write_refusal, write_refusal_in, write_answer, write_answer_in, write_leaves, write_leaves_in}
+use Rattle.rules.specs.Logs.{held_contacts, log_words, write_refusal, write_answer, write_leaves}
 use Rattle.rules.specs.Fresh.{Fresh}
 use Rattle.rules.specs.CallLists.{LegalOf, Accepted}
 use Rattle.rules.specs.Removing.{remove_refusal, remove_answer}
-use Rattle.rules.specs.Reading.{logged_contacts, read_refusal, different, read_answer, read_answer_in, read_leaves}
+use Rattle.rules.specs.Reading.{logged_contacts, read_refusal, different, read_answer, read_leaves}
 use Rattle.rules.specs.Folds.{count_below, within}
 use Rattle.rules.specs.Questions.{set_answer_of, is_reached, set_words, reached_refusal, reached_answer, reached_words, reached_count, set_over, reached_leaves}
 use Rattle.rules.specs.Chains.{nowhere, there, leads_on, leads, Lowest, nobody, animal, lowest, prepend, follow, chain_from, chain_of, chain_refusal, chain_answer_of, chain_answer, chain_words, chain_leaves}
@@ -50,7 +50,6 @@ use Rattle.rules.proofs.Asked.{valid-behind, room-behind}
 use Rattle.rules.proofs.Fresh.{add-good, empty-good, fresh-length, fresh-passes}
 use Rattle.rules.proofs.Runs.{run-fresh}
 use Rattle.rules.proofs.Removing.{done_refused, remove_kept, remove_length, remove_valid, remove_both_valid}
-use Rattle.rules.proofs.CarryingOver.{carry-over_kept, carry_over_length, carry_over_valid}
 use Rattle.rules.proofs.Joining.{join_kept, join_length, join_valid}
 use Rattle.rules.proofs.Stays.{stays-kept, stays_length, stays_valid}
 use Rattle.rules.proofs.Reading.{Readable, read-iff, read-opens, log-length}
@@ -247,16 +246,16 @@ list_length T l = go (list_refusal T)
 
 write_cases : (T B : List ℕ) (P : Option Refusal → List ℕ → Type 0) → ((r : Refusal) → P (some r) B)
     → (write_refusal T B ≡ none → P none (log_words (get_or T 0 0) (held_contacts T) ++ drop (length (held_contacts T) + 2) B)) → P (write_refusal T B) (write_leaves T B)
-unfolding write_leaves_in
+unfolding write_leaves
 write_cases T B P a b = unless-cases (write_refusal T B) P (λ r e. a r) b
 
 write_kept : (T B : List ℕ) (r : Refusal) → write_answer T B ≡ WriteRefused r → write_leaves T B ≡ B
-unfolding write_answer_in
+unfolding write_answer
 write_kept T B r = write_cases T B (λ o L. write_answer_of o (Written (length (held_contacts T) + 2)) ≡ WriteRefused r → L ≡ B) (λ s e. refl) (λ p e. never cc)
 
 -- A log that is written fits its buffer.
 pub write_fits : (T B : List ℕ) → write_refusal T B ≡ none → ValidTable T × (length (held_contacts T) + 2 ≤ length B)
-unfolding write_refusal_in
+unfolding write_refusal
 write_fits T B e =
     let p = valid-behind T e in
     let r = (ensure-iff (leb (length (held_contacts T) + 2) (length B)) LogBufferTooShort none).0 p.1 in
@@ -281,7 +280,7 @@ read-cases L T P a b =
     (λ e. let h = (read-iff L T).0 e in b h _ (run-fresh (animals L) (ticks L) (carry L) T (logged_contacts L) (read-opens L T h)))
 
 read_kept : (L T : List ℕ) (r : Refusal) → read_answer L T ≡ ReadRefused r → read_leaves L T ≡ T
-unfolding read_answer_in
+unfolding read_answer
 read_kept L T r =
     read-cases L T (λ o U. read_answer_of o (Read (different (logged_contacts L))) ≡ ReadRefused r → U ≡ T) (λ s e. refl)
     (λ h U f e. never cc)
@@ -290,7 +289,7 @@ read_length : (L T : List ℕ) → length (read_leaves L T) ≡ length T
 read_length L T = read-cases L T (λ o U. length U ≡ length T) (λ r. refl) (λ h U f. fresh-length f ∙ sym h.fits)
 
 read_valid : (L T : List ℕ) (k : ℕ) → read_answer L T ≡ Read k → ValidTable (read_leaves L T)
-unfolding read_answer_in
+unfolding read_answer
 read_valid L T k =
     read-cases L T (λ o U. read_answer_of o (Read (different (logged_contacts L))) ≡ Read k → ValidTable U)
     (λ r e. never cc) (λ h U f e. fresh-passes f)
@@ -380,7 +379,6 @@ demand1 =
       write_refused = write_kept;
       read_refused = read_kept;
       join_refused = join_kept;
-      carry_over_refused = carry-over_kept;
       stays_refused = stays-kept;
       reached_refused = reached-kept;
       reached_empty = reached_empty;
@@ -400,7 +398,6 @@ demand1 =
       write_length = write_length;
       read_length = read_length;
       join_length = join_length;
-      carry_over_length = carry_over_length;
       stays_length = stays_length;
       counted_length = counted_length;
       removal_length = removal_length;
@@ -413,7 +410,6 @@ demand1 =
       remove_valid = remove_valid;
       remove_both_valid = remove_both_valid;
       join_valid = join_valid;
-      carry_over_valid = carry_over_valid;
       stays_valid = stays_valid;
       counted_valid = counted_valid;
       removal_valid = removal_valid;

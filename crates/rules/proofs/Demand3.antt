@@ -24,7 +24,7 @@ use Rattle.rules.specs.Checks.{is_open, well_formed}
 use Rattle.rules.specs.Opening.{open_refusal}
 use Rattle.rules.specs.Adding.{Legal, same_cell, cells_changed, added_cells, add_answer, add_leaves}
 use Rattle.rules.specs.Adding as Adding
-use Rattle.rules.specs.Logs.{held_contacts, log_words, write_refusal, write_refusal_in, write_answer, write_answer_in, write_leaves, write_leaves_in}
+use Rattle.rules.specs.Logs.{held_contacts, log_words, write_refusal, write_answer, write_leaves}
 use Rattle.rules.specs.Fresh.{Fresh}
 use Rattle.rules.specs.Removing.{remove_refusal, remove_answer}
 use Rattle.rules.specs.CallLists.{engine, Call, addition, removal, table_after, SetLeft, Accepted, AcceptedOn, LegalCall}
@@ -240,7 +240,7 @@ module _ {n τ δ : ℕ} {S : Contacts} {T : List ℕ} (f : Fresh n τ δ S T) w
   call-accepted (removal k W) = let a = done_none (remove_refusal T W k) in let b = removal-accepted f k W in (λ e. b.0 (a.0 e), λ h. a.1 (b.1 h))
 
   write_accepts : (B : List ℕ) → length (held_contacts T) + 2 ≤ length B → write_refusal T B ≡ none
-  unfolding write_refusal_in
+  unfolding write_refusal
   write_accepts B h =
       let p = fresh-passes f in
       (ensure-iff (is_open T) NotOpen _).1 (
@@ -253,12 +253,12 @@ module _ {n τ δ : ℕ} {S : Contacts} {T : List ℕ} (f : Fresh n τ δ S T) w
       )
 
   pub fresh-written : (B : List ℕ) → length (held_contacts T) + 2 ≤ length B → write_answer T B ≡ Written (length (held_contacts T) + 2)
-  unfolding write_answer_in
+  unfolding write_answer
   fresh-written B h = rw (write_accepts B h)
 
   pub fresh-log : (B : List ℕ) → length (held_contacts T) + 2 ≤ length B
       → write_leaves T B ≡ log_words (opening_word n τ δ) (held_contacts T) ++ drop (length (held_contacts T) + 2) B
-  unfolding write_leaves_in
+  unfolding write_leaves
   fresh-log B h = rw (write_accepts B h, laid-first (fresh-laid f))
 
 -- ---- the demand

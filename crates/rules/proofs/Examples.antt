@@ -5,10 +5,10 @@ use Rattle.journeys.specs.Cell.{later, sooner, latest_departing, earliest_arrivi
 use Rattle.journeys.specs.Adding as Rule
 use Rattle.words.specs.Layout.{is_of}
 use Rattle.rules.specs.Folds.{flat, all_below, sum_below, count_below}
-use Rattle.rules.specs.Layout.{cell_words_in, table_words_in, cell_at, cell_of_in, cells_of_in}
-use Rattle.rules.specs.Checks.{is_open_in, row_well_formed_in, rows_well_formed_in, all_unused, cell_well_formed_in, well_formed_in}
+use Rattle.rules.specs.Layout.{cell_words, table_words, cell_at, cell_of, cells_of}
+use Rattle.rules.specs.Checks.{is_open, row_well_formed, rows_well_formed, all_unused, cell_well_formed, well_formed}
 use Rattle.rules.specs.Opening.{open_refusal, open_leaves}
-use Rattle.rules.specs.Adding.{stands, same_cell, cells_changed, add_refusal, added_cells, holds, holds_in, add_answer, add_leaves}
+use Rattle.rules.specs.Adding.{stands, same_cell, cells_changed, add_refusal, added_cells, holds, add_answer, add_leaves}
 use Rattle.rules.specs.Questions.{reaches, reach_refusal, reach_answer, moment_refusal, earliest_answer, latest_answer, connects, connected_refusal, connected_answer, is_reached, set_word, set_words, reached_refusal, reached_answer, reached_count, reached_leaves}
 use Rattle.rules.specs.Chains.{departure_with, leads, lowest, chain_from, chain_of, chain_refusal, chain_answer, chain_leaves}
 use Rattle.rules.specs.Claims.{held_word, goes_on, form_journey, claimed_answer}
@@ -29,9 +29,9 @@ all_hold l e s m = map-agree (λ (r : Row). gives (example_table s) r.call) (λ 
 
 computed : (map all_given marked ≡ map all_said marked) × (map all_given worked ≡ map all_said worked)
 unfolding
-    open_leaves open_refusal table_words_in flat cell_words_in run add_leaves add_answer add_refusal is_open_in is_of well_formed_in all_below cell_well_formed_in rows_well_formed_in row_well_formed_in all_unused
-    cells_of_in cell_at cell_of_in added_cells Rule.add Rule.departure_of Rule.arrival_of Rule.enter_both enter put_in_order without_containing has_inside latest_departure earliest_arrival latest_departing earliest_arriving later sooner
-    stands holds_in same_cell cells_changed sum_below count_below reaches reach_refusal reach_answer moment_refusal earliest_answer latest_answer connects connected_refusal connected_answer
+    open_leaves open_refusal table_words flat cell_words run add_leaves add_answer add_refusal is_open is_of well_formed all_below cell_well_formed rows_well_formed row_well_formed all_unused
+    cells_of cell_at cell_of added_cells Rule.add Rule.departure_of Rule.arrival_of Rule.enter_both enter put_in_order without_containing has_inside latest_departure earliest_arrival latest_departing earliest_arriving later sooner
+    stands holds same_cell cells_changed sum_below count_below reaches reach_refusal reach_answer moment_refusal earliest_answer latest_answer connects connected_refusal connected_answer
     is_reached set_word set_words reached_refusal reached_answer reached_count reached_leaves departure_with leads lowest chain_from chain_of chain_refusal chain_answer chain_leaves
     held_word goes_on form_journey claimed_answer
 computed = (refl, refl)

@@ -16,7 +16,7 @@ use Rattle.rules.specs.Layout.{animals, ticks, carry, cells_of}
 use Rattle.rules.specs.Checks.{ValidTable}
 use Rattle.rules.specs.Adding.{Legal, stands}
 use Rattle.rules.specs.Adding as Adding
-use Rattle.rules.specs.Logs.{held_contacts, held_contacts_in}
+use Rattle.rules.specs.Logs.{held_contacts}
 use Rattle.rules.specs.Fresh.{Fresh}
 use Rattle.rules.specs.Orders.{Sorted, Earlier}
 use Rattle.rules.proofs.Folds.{passes-iff}
@@ -30,17 +30,17 @@ use Rattle.rules.proofs.LogOrder.{order-sorted, order-once, Listed, order-iff, o
 module _ (T : List ℕ) where
   -- The contacts are listed by t, then u, then v, each once.
   pub held-sorted : Sorted Earlier (held_contacts T)
-  unfolding held_contacts_in
+  unfolding held_contacts
   held-sorted = order-sorted (animals T) (ticks T) (Adding.holds T)
 
   -- No contact is listed twice.
   pub held-once : Once (held_contacts T)
-  unfolding held_contacts_in
+  unfolding held_contacts
   held-once = order-once (animals T) (ticks T) (Adding.holds T)
 
   -- Which contacts are listed.
   pub held-iff : (k : Contact) → Memᴰ k (held_contacts T) ↔ Listed (animals T) (ticks T) (Adding.holds T) k
-  unfolding held_contacts_in
+  unfolding held_contacts
   held-iff = order-iff (animals T) (ticks T) (Adding.holds T)
 
 -- n·(n−1)·τ contacts, and the two other words of their log, are fewer than the end word's field can say.
@@ -56,7 +56,7 @@ pairs-few T {m} h =
 
 -- A table holds no more than n·(n−1)·τ contacts.
 pub held-few : (T : List ℕ) → ValidTable T → length (held_contacts T) + 2 < max_contacts
-unfolding held_contacts_in Adding.holds_in
+unfolding held_contacts Adding.holds
 held-few T p = pairs-few T (order-few (animals T) (ticks T) (Adding.holds T) (λ u t h. rw ((passes-good T p).diagonal u h) (unfold stands in refl)))
 
 -- ---- on a table laid out from well-formed cells
@@ -64,7 +64,7 @@ held-few T p = pairs-few T (order-few (animals T) (ticks T) (Adding.holds T) (λ
 module _ {n τ δ : ℕ} {C : Cells} {T : List ℕ} (f : Laid n τ δ C T) where
   -- It holds a contact of its animals exactly when its own interval stands in their cell.
   pub laid-holds : (k : Contact) → k.from < n → k.to < n → (Adding.holds T k ≡ true) ↔ Memᴰ (interval k.tick (k.tick + δ)) (C k.from k.to)
-  unfolding Adding.holds_in
+  unfolding Adding.holds
   laid-holds k h j = rw (laid-carry f, laid_cells f k.from k.to h j) (passes-iff (stands-outcome (interval k.tick (k.tick + δ)) (C k.from k.to)))
 
   -- No interval stands in a cell from an animal to itself.
@@ -128,5 +128,5 @@ module _ {n τ δ : ℕ} {S : Contacts} {T : List ℕ} (f : Fresh n τ δ S T) w
 
 -- A table holds a contact where its interval, of which a is the arrival, stands in its cell.
 pub holds_at : (T : List ℕ) (u v t a : ℕ) {r : Bool} → a ≡ t + carry T → r ≡ Adding.stands (interval t a) (cells_of T u v) → r ≡ Adding.holds T (contact u v t)
-unfolding Adding.holds_in
+unfolding Adding.holds
 holds_at T u v t a e f = f ∙ ap (λ (i : ℕ). Adding.stands (interval t i) (cells_of T u v)) e

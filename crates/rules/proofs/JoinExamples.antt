@@ -5,10 +5,10 @@ use Rattle.journeys.specs.Cell.{latest_departure, earliest_arrival, latest_depar
 use Rattle.journeys.specs.Adding as Rule
 use Rattle.words.specs.Layout.{is_of}
 use Rattle.rules.specs.Folds.{flat, all_below, sum_below, count_below}
-use Rattle.rules.specs.Layout.{cell_words_in, table_words_in, cell_at, cell_of_in, cells_of_in}
-use Rattle.rules.specs.Checks.{is_open_in, row_well_formed_in, rows_well_formed_in, all_unused, cell_well_formed_in, well_formed_in}
-use Rattle.rules.specs.Adding.{stands, same_cell, cells_changed, add_refusal, added_cells, holds_in, add_answer, add_leaves}
-use Rattle.rules.specs.Logs.{held_contacts_in}
+use Rattle.rules.specs.Layout.{cell_words, table_words, cell_at, cell_of, cells_of}
+use Rattle.rules.specs.Checks.{is_open, row_well_formed, rows_well_formed, all_unused, cell_well_formed, well_formed}
+use Rattle.rules.specs.Adding.{stands, same_cell, cells_changed, add_refusal, added_cells, holds, add_answer, add_leaves}
+use Rattle.rules.specs.Logs.{held_contacts}
 use Rattle.rules.specs.Orders.{listed, in_log_order}
 use Rattle.rules.specs.CallLists.{run, new_adds}
 use Rattle.rules.specs.Joining.{join_refusal, join_answer, join_leaves}
@@ -17,9 +17,9 @@ use Rattle.rules.proofs.Folds.{map-agree}
 
 computed : map join_of join_rows ≡ map (λ r. r.given) join_rows
 unfolding
-    table_words_in flat cell_words_in run new_adds add_leaves add_answer add_refusal is_open_in is_of well_formed_in all_below cell_well_formed_in rows_well_formed_in row_well_formed_in all_unused
-    cells_of_in cell_at cell_of_in added_cells Rule.add Rule.departure_of Rule.arrival_of Rule.enter_both enter put_in_order without_containing has_inside latest_departure earliest_arrival latest_departing earliest_arriving later sooner
-    stands holds_in same_cell cells_changed sum_below count_below in_log_order listed held_contacts_in join_refusal join_answer join_leaves
+    table_words flat cell_words run new_adds add_leaves add_answer add_refusal is_open is_of well_formed all_below cell_well_formed rows_well_formed row_well_formed all_unused
+    cells_of cell_at cell_of added_cells Rule.add Rule.departure_of Rule.arrival_of Rule.enter_both enter put_in_order without_containing has_inside latest_departure earliest_arrival latest_departing earliest_arriving later sooner
+    stands holds same_cell cells_changed sum_below count_below in_log_order listed held_contacts join_refusal join_answer join_leaves
 computed = refl
 
 pub joins_worked : JoinsWorked

@@ -17,7 +17,7 @@ use Rattle.journeys.proofs.Closed.{add_same}
 use Rattle.journeys.proofs.Rows.{add-well_formed}
 use Rattle.words.specs.Words.{opening_word}
 use Rattle.rules.specs.declared.Refusal.{Refusal}
-use Rattle.rules.specs.Layout.{table_length, table_words, table_words_in, animals, ticks, carry, cells_of}
+use Rattle.rules.specs.Layout.{table_length, table_words, animals, ticks, carry, cells_of}
 use Rattle.rules.specs.Checks.{ValidTable, WellFormedBelow}
 use Rattle.rules.specs.Opening.{Sizes}
 use Rattle.rules.specs.Adding.{Legal, add_refusal, added_cells, add_leaves}
@@ -53,7 +53,7 @@ module _ {n τ δ : ℕ} {C : Cells} {T : List ℕ} (f : Laid n τ δ C T) where
 
   -- The opening word of its numbers stands first.
   pub laid-first : get_or T 0 0 ≡ opening_word n τ δ
-  unfolding table_words_in
+  unfolding table_words
   laid-first = ap (λ (l : List ℕ). get_or l 0 0) f.words
 
   -- The table has the length for its numbers.

@@ -21,8 +21,6 @@ pub mod Sorted
 pub mod LogOrder
 pub mod Held
 pub mod Removing
-pub mod OldChecks
-pub mod CarryingOver
 pub mod Runs
 pub mod AnyOrder
 pub mod Without
@@ -32,7 +30,6 @@ pub mod Stays
 pub mod Demand3
 pub mod TableCalls
 pub mod LogsRead
-pub mod OldLogs
 pub mod SheetRule
 pub mod Determined
 pub mod Rejected
@@ -52,7 +49,6 @@ pub mod Session
 pub mod LogExamples
 pub mod JoinExamples
 pub mod RemoveExamples
-pub mod CarryExamples
 pub mod StayExamples
 pub mod ListRule
 pub mod TickRefusals

@@ -10,10 +10,10 @@ use Rattle.journeys.specs.Adding.{departure_of, arrival_of, enter_both, add}
 use Rattle.words.specs.Layout.{is_of}
 use Rattle.rules.specs.declared.Question.{Question}
 use Rattle.rules.specs.Folds.{flat, all_below}
-use Rattle.rules.specs.Layout.{cell_words_in, table_words_in, cell_at, cell_of_in, cells_of_in}
-use Rattle.rules.specs.Checks.{is_open_in, row_well_formed_in, rows_well_formed_in, all_unused, cell_well_formed_in, well_formed_in, ensure_table}
+use Rattle.rules.specs.Layout.{cell_words, table_words, cell_at, cell_of, cells_of}
+use Rattle.rules.specs.Checks.{is_open, row_well_formed, rows_well_formed, all_unused, cell_well_formed, well_formed, ensure_table}
 use Rattle.rules.specs.Opening.{open_refusal, open_leaves}
-use Rattle.rules.specs.Adding.{stands, add_refusal, added_cells, add_leaves, holds, holds_in}
+use Rattle.rules.specs.Adding.{stands, add_refusal, added_cells, add_leaves, holds}
 use Rattle.rules.specs.Questions.{reaches, reach_refusal, reach_answer}
 use Rattle.rules.specs.CallLists.{run}
 use Rattle.rules.specs.QuestionList.{record_answer_of, asked, list_answer, list_leaves}
@@ -57,8 +57,8 @@ list_rule =
 -- The examples come out by computation.
 pub list_examples : ListExamples
 unfolding
-    list_answer list_leaves asked reach_answer reach_refusal reaches run open_refusal open_leaves add_refusal added_cells add_leaves holds_in stands
-    is_open_in row_well_formed_in rows_well_formed_in all_unused cell_well_formed_in well_formed_in flat all_below cell_words_in table_words_in cell_at cell_of_in cells_of_in is_of add enter_both departure_of arrival_of
+    list_answer list_leaves asked reach_answer reach_refusal reaches run open_refusal open_leaves add_refusal added_cells add_leaves holds stands
+    is_open row_well_formed rows_well_formed all_unused cell_well_formed well_formed flat all_below cell_words table_words cell_at cell_of cells_of is_of add enter_both departure_of arrival_of
     later sooner latest_departing earliest_arriving latest_departure earliest_arrival has_inside without_containing put_in_order enter
 list_examples =
     record {

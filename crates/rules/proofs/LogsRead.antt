@@ -17,9 +17,10 @@ use Rattle.rules.specs.declared.ReadAnswer.TheVariants.{Read}
 use Rattle.rules.specs.declared.WriteAnswer.TheVariants.{Written}
 use Rattle.rules.specs.Answers.{read_answer_of, write_answer_of}
 use Rattle.rules.specs.Layout.{table_length, animals, ticks, carry}
-use Rattle.rules.specs.Logs.{held_contacts, log_words, write_refusal, write_answer, write_answer_in, write_leaves}
+use Rattle.rules.specs.Logs.{held_contacts, log_words, write_refusal, write_answer, write_leaves}
 use Rattle.rules.specs.Fresh.{Fresh}
-use Rattle.rules.specs.Reading.{logged_contacts, different, read_refusal, read_answer, read_answer_in, read_leaves}
+use Rattle.rules.specs.Orders.{Sorted, Earlier}
+use Rattle.rules.specs.Reading.{logged_contacts, different, read_refusal, read_answer, read_leaves}
 use Rattle.rules.specs.Sheet.{most_bytes, words_of, too_large, table_text, is_beyond, log_text, sheet_text}
 use Rattle.rules.specs.LogsRead.{IsLog, LogsRead}
 use Rattle.rules.proofs.Judged.{open_iff}
@@ -38,7 +39,7 @@ module _ {n τ δ : ℕ} {l : List Contact} {L : List ℕ} (g : IsLog n τ δ l 
 
   -- It answers the number of different contacts.
   log-answer : read_answer L T ≡ Read (different l)
-  unfolding read_answer_in
+  unfolding read_answer
   log-answer = rw (log-accepted, log-contacts g)
 
   -- It leaves the fresh table over the log's contacts.
@@ -59,7 +60,7 @@ module _ {n τ δ : ℕ} {l : List Contact} {L : List ℕ} (g : IsLog n τ δ l 
 -- ---- nothing else is read
 
 read-accepted : (L T : List ℕ) (k : ℕ) → read_answer L T ≡ Read k → read_refusal L T ≡ none
-unfolding read_answer_in
+unfolding read_answer
 read-accepted L T k = go (read_refusal L T)
   where
     go : (o : Option Refusal) → read_answer_of o (Read (different (logged_contacts L))) ≡ Read k → o ≡ none
@@ -100,7 +101,7 @@ module _ {n τ δ : ℕ} {S : Contacts} {T : List ℕ} (f : Fresh n τ δ S T) w
 
   -- An answer of c + 2 words means that the table holds c contacts, and that those words are its log.
   written-words : (B : List ℕ) (c : ℕ) → write_answer T B ≡ Written (c + 2) → (length (held_contacts T) ≡ c) × (take (c + 2) (write_leaves T B) ≡ log_words (opening_word n τ δ) (held_contacts T))
-  unfolding write_answer_in
+  unfolding write_answer
   written-words B c e = (omega (arith, r.1), ap (take (c + 2)) (fresh-log f B fits) ∙ take_at log (drop (length (held_contacts T) + 2) B) (c + 2) (log-length (opening_word n τ δ) (held_contacts T) ∙ r.1))
     where
       log : List ℕ

@@ -8,8 +8,6 @@ use Rattle.rules.proofs.CountedCalls.{counted_rule}
 use Rattle.rules.proofs.AnyOrder.{any_order}
 use Rattle.rules.proofs.Removing.{remove_rule}
 use Rattle.rules.proofs.Joining.{join_rule}
-use Rattle.rules.proofs.CarryingOver.{carry_over_rule}
-use Rattle.rules.proofs.OldLogs.{old_logs}
 use Rattle.rules.proofs.Stays.{stay_rule}
 use Rattle.rules.proofs.TableCalls.{table_calls}
 use Rattle.rules.proofs.Windows.{window_rule}
@@ -23,8 +21,6 @@ use Rattle.rules.proofs.Examples.{marked_hold, worked_hold}
 use Rattle.rules.proofs.LogExamples.{logs_answered}
 use Rattle.rules.proofs.JoinExamples.{joins_worked}
 use Rattle.rules.proofs.RemoveExamples.{removes_worked}
-use Rattle.words.proofs.WordExamples.{words_worked}
-use Rattle.rules.proofs.CarryExamples.{carries_worked, formats_alike}
 use Rattle.rules.proofs.StayExamples.{stays_worked}
 use Rattle.rules.proofs.Session.{session_printed}
 use Rattle.rules.proofs.Determined.{determined}
@@ -43,8 +39,6 @@ promised =
       any_order = any_order;
       remove_rule = remove_rule;
       join_rule = join_rule;
-      carry_over_rule = carry_over_rule;
-      old_logs = old_logs;
       stay_rule = stay_rule;
       table_calls = table_calls;
       window_rule = window_rule;
@@ -59,9 +53,6 @@ promised =
       logs_answered = logs_answered;
       joins_worked = joins_worked;
       removes_worked = removes_worked;
-      words_worked = words_worked;
-      carries_worked = carries_worked;
-      formats_alike = formats_alike;
       stays_worked = stays_worked;
       list_examples = list_examples;
       session_printed = session_printed;

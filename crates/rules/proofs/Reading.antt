@@ -5,7 +5,7 @@ use mathlib.Core.Bool.{Bool, true, false, cond, not, ◌&&◌, ◌||◌, false�
 use mathlib.Core.Option.{Option, none, some}
 use mathlib.Core.List.Memᴰ
 use mathlib.Core.List.{List, [], ◌∷◌, ◌++◌, map, Memᴰ}
-use Prim.Native.Nat.{ℕ, suc, ◌+◌, ◌-◌, ◌≤◌, ◌<◌}
+use Prim.Native.Nat.{ℕ, suc, ◌+◌, ◌-◌, ◌^◌, ◌≤◌, ◌<◌}
 use native.Mathlib.Omega.{arith}
 use lib.ListN.{length, get_or, take, drop, length-append, length-map, length-drop}
 use lib.Seq.{take_at, get_or_at, drop-cons, take_all, take-suc, get_or-drop}
@@ -13,9 +13,9 @@ use lib.Dec.{leb, ltb, eqb}
 use borrow.Author.Tests.{eq-eqb, ne_eqb, eqb-true, eqb-false, le-leb, leb-true, lt-ltb, ltb-true, not-true}
 use Rattle.journeys.specs.Journey.{Contact}
 use Rattle.journeys.proofs.Tests.{Outcome, holds, fails, eq_outcome, and_outcome}
-use Rattle.words.specs.Layout.{is_of}
-use Rattle.words.specs.Words.{opening_word, animals_of, ticks_of, carry_of, contact_layout, contact_word, contact_of, end_layout, end_word, most_logged, logged_of}
-use Rattle.words.proofs.Packed.{contact_of-bound, contact_of-word, contact_word-is, contact_word-of, opening_word-is, opening_word-of, logged_of-word, logged_of-bound, end_word-is, end_word-of}
+use Rattle.words.specs.Layout.{get, is_of}
+use Rattle.words.specs.Words.{opening_word, animals_of, ticks_of, carry_of, contact_layout, contact_word, contact_of, end_layout, end_word, logged_field}
+use Rattle.words.proofs.Packed.{contact_of-bound, contact_of-word, contact_word-is, contact_word-of, opening_word-is, opening_word-of, logged_of_word, logged_of_bound, end_word-is, end_word-of}
 use Rattle.rules.specs.Limits.{max_animals, max_ticks}
 use Rattle.rules.specs.declared.Refusal.{Refusal}
 use Rattle.rules.specs.declared.Refusal.TheVariants.{NotALog, WrongLength, NotAContact, IllegalContact, WrongEnd}
@@ -23,9 +23,9 @@ use Rattle.rules.specs.declared.LogWord.TheVariants.{Legal as LegalWord, NoConta
 use Rattle.rules.specs.Layout.{table_length, animals, ticks, carry}
 use Rattle.rules.specs.Opening.{Sizes, open_refusal}
 use Rattle.rules.specs.Adding.{Legal, same_contact}
-use Rattle.rules.specs.Logs.{log_words, log_words_in}
+use Rattle.rules.specs.Logs.{log_words}
 use Rattle.rules.specs.LogsRead.{IsLog}
-use Rattle.rules.specs.Reading.{is_log, between, logged_contacts, logged_contacts_in, is_true_end, is_true_end_in, is_legal, log_word, log_word_in, ensure_legal, ensure_words, ensure_words_in, read_refusal, read_refusal_in, comes_in, different}
+use Rattle.rules.specs.Reading.{is_log, between, logged_contacts, is_true_end, is_legal, log_word, ensure_legal, ensure_words, read_refusal, comes_in, different}
 use Rattle.rules.proofs.Folds.{and_left, and_right, and_intro, passes-iff, map_back, member-outcome}
 use Rattle.rules.proofs.Distinct.{Once, once-short}
 use Rattle.rules.proofs.Decode.{animals-again, ticks-again, carry-again}
@@ -82,7 +82,7 @@ legal-passes false b o = (λ e. none-some (some NotAContact) NotAContact e refl,
 
 -- A word passes its check exactly when it is a legal contact's word.
 pub word-iff : (n τ w : ℕ) (o : Option Refusal) → (ensure_legal (log_word n τ w) o ≡ none) ↔ (IsLegalWord n τ w × (o ≡ none))
-unfolding log_word_in
+unfolding log_word
 word-iff n τ w o = (
   λ e. let h = p.0 e in ((h.0, q.0 h.1), h.2),
   λ h. p.1 (h.0.0, q.1 h.0.1, h.1),
@@ -96,7 +96,7 @@ word-iff n τ w o = (
 
 -- The words pass their checks exactly when each is a legal contact's word.
 pub words-iff : (n τ : ℕ) (ws : List ℕ) (o : Option Refusal) → (ensure_words n τ ws o ≡ none) ↔ (((w : ℕ) → Memᴰ w ws → IsLegalWord n τ w) × (o ≡ none))
-unfolding ensure_words_in
+unfolding ensure_words
 words-iff n τ [] o = (λ e. (λ w m. absurd (Memᴰ.not-nil m), e), λ h. h.1)
 words-iff n τ (v ∷ ws) o =
     let p = word-iff n τ v (ensure_words n τ ws o) in
@@ -114,7 +114,7 @@ pub record Readable (L T : List ℕ) : Type 0 where
 
 -- Reading refuses nothing exactly when the checks hold.
 pub read-iff : (L T : List ℕ) → (read_refusal L T ≡ none) ↔ Readable L T
-unfolding read_refusal_in
+unfolding read_refusal
 read-iff L T = (to, of)
   where
     n : ℕ
@@ -246,7 +246,7 @@ module _ (w e : ℕ) (ws : List ℕ) where
 
 -- A log of l has two words more than l has contacts.
 pub log-length : (w : ℕ) (l : List Contact) → length (log_words w l) ≡ length l + 2
-unfolding log_words_in
+unfolding log_words
 log-length w l = framed-length w (end_word (length l)) (map contact_word l) ∙ ap (λ (i : ℕ). i + 2) (length-map l contact_word)
 
 -- Two words or more are a first and a last word around those between.
@@ -268,7 +268,7 @@ framed-again L h = sym (drop-cons L 0 0 (omega arith) ∙ ap (λ (r : List ℕ).
 
 -- What is read is a log of its contacts.
 pub readable_log : (L T : List ℕ) → Readable L T → IsLog (animals L) (ticks L) (carry L) (logged_contacts L) L
-unfolding logged_contacts_in is_true_end_in log_words_in
+unfolding logged_contacts is_true_end log_words
 readable_log L T h = record { sizes = table-sizes L; legal = legal; few = few; words = sym words }
   where
     ws : List ℕ
@@ -280,11 +280,11 @@ readable_log L T h = record { sizes = table-sizes L; legal = legal; few = few; w
     legal : (k : Contact) → Memᴰ k (map contact_of ws) → Legal (animals L) (ticks L) k
     legal k m = let r = Memᴰ.of_map contact_of ws m in subst (Legal (animals L) (ticks L)) r.2 (h.contacts r.0 r.1).1
 
-    count : logged_of end ≡ length (map contact_of ws)
-    count = eqb-true (logged_of end) (length ws) (and_right (is_of end_layout end) _ h.true-end) ∙ sym (length-map ws contact_of)
+    count : get logged_field end ≡ length (map contact_of ws)
+    count = eqb-true (get logged_field end) (length ws) (and_right (is_of end_layout end) _ h.true-end) ∙ sym (length-map ws contact_of)
 
-    few : length (map contact_of ws) ≤ most_logged
-    few = let b = logged_of-bound end in omega (arith, count)
+    few : length (map contact_of ws) < 2 ^ 26
+    few = let b = logged_of_bound end in omega (arith, count)
 
     words : log_words (opening_word (animals L) (ticks L) (carry L)) (map contact_of ws) ≡ L
     words =
@@ -295,7 +295,7 @@ readable_log L T h = record { sizes = table-sizes L; legal = legal; few = few; w
 module _ {n τ δ : ℕ} {l : List Contact} {L : List ℕ} (g : IsLog n τ δ l L) where
   -- A log's first word is its opening word.
   pub log-first : get_or L 0 0 ≡ opening_word n τ δ
-  unfolding log_words_in
+  unfolding log_words
   log-first = ap (λ (M : List ℕ). get_or M 0 0) g.words
 
   -- A log's numbers are those of its opening.
@@ -309,11 +309,11 @@ module _ {n τ δ : ℕ} {l : List Contact} {L : List ℕ} (g : IsLog n τ δ l 
   log-carry = ap carry_of log-first ∙ carry-again n τ δ g.sizes
 
   log-between : between L ≡ map contact_word l
-  unfolding log_words_in
+  unfolding log_words
   log-between = ap between g.words ∙ framed-between (opening_word n τ δ) (end_word (length l)) (map contact_word l)
 
   log-last : get_or L (length L - 1) 0 ≡ end_word (length l)
-  unfolding log_words_in
+  unfolding log_words
   log-last = ap (λ (M : List ℕ). get_or M (length M - 1) 0) g.words ∙ framed-last (opening_word n τ δ) (end_word (length l)) (map contact_word l)
 
   -- A legal contact's word says it, and is a contact word.
@@ -328,7 +328,7 @@ module _ {n τ δ : ℕ} {l : List Contact} {L : List ℕ} (g : IsLog n τ δ l 
 
   -- The contacts of a log are those that it was made of.
   pub log-contacts : logged_contacts L ≡ l
-  unfolding logged_contacts_in
+  unfolding logged_contacts
   log-contacts = ap (map contact_of) log-between ∙ map_back contact_word contact_of l (λ k m. (word-again k m).0)
 
   -- A log is read into a table of the length for it.
@@ -355,5 +355,5 @@ module _ {n τ δ : ℕ} {l : List Contact} {L : List ℕ} (g : IsLog n τ δ l 
 
       true-end : is_true_end (length (map contact_word l)) (end_word (length l)) ≡ true
       true-end =
-          unfold is_true_end_in in
-          and_intro (is_of end_layout (end_word (length l))) _ (end_word-is (length l) (omega (arith, g.few))) (eq-eqb _ _ (logged_of-word (length l) (omega (arith, g.few)) ∙ sym (length-map l contact_word)))
+          unfold is_true_end in
+          and_intro (is_of end_layout (end_word (length l))) _ (end_word-is (length l) g.few) (eq-eqb _ _ (logged_of_word (length l) g.few ∙ sym (length-map l contact_word)))

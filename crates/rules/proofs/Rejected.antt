@@ -16,11 +16,11 @@ use Rattle.rules.specs.declared.DoneAnswer.TheVariants.{Done, Refused as DoneRef
 use Rattle.rules.specs.declared.AddAnswer.{AddAnswer}
 use Rattle.rules.specs.declared.AddAnswer.TheVariants.{New, Known, Refused as AddRefused}
 use Rattle.rules.specs.Folds.{flat, all_below, sum_below, count_below}
-use Rattle.rules.specs.Layout.{cell_words_in, table_words_in, cell_at, cell_of_in, cells_of_in}
-use Rattle.rules.specs.Checks.{is_open_in, row_well_formed_in, rows_well_formed_in, all_unused, cell_well_formed_in, well_formed_in}
+use Rattle.rules.specs.Layout.{cell_words, table_words, cell_at, cell_of, cells_of}
+use Rattle.rules.specs.Checks.{is_open, row_well_formed, rows_well_formed, all_unused, cell_well_formed, well_formed}
 use Rattle.rules.specs.Opening.{open_refusal, open_answer, open_leaves}
-use Rattle.rules.specs.Adding.{Legal, stands, same_cell, cells_changed, add_refusal, added_cells, holds_in, add_answer, add_leaves}
-use Rattle.rules.specs.Logs.{held_contacts_in, log_words_in, write_refusal_in, write_answer_in, write_leaves_in}
+use Rattle.rules.specs.Adding.{Legal, stands, same_cell, cells_changed, add_refusal, added_cells, holds, add_answer, add_leaves}
+use Rattle.rules.specs.Logs.{held_contacts, log_words, write_refusal, write_answer, write_leaves}
 use Rattle.rules.specs.Removing.{remove_refusal, remaining, table_without, remove_answer, remove_leaves, remove_work}
 use Rattle.rules.specs.CallLists.{Engine, engine, Call, addition, removal, run_list, table_after, SetAfterAll, SetLeft}
 use Rattle.rules.specs.Orders.{Sorted, Earlier, listed, in_log_order}
@@ -108,7 +108,7 @@ abbrev added-one : List Call
 added-one = addition (contact 0 1 1) ∷ []
 
 pub rejected : Rejected
-unfolding open_answer open_leaves open_refusal table_words_in flat cell_words_in run_list add_leaves add_answer add_refusal is_open_in is_of well_formed_in all_below cell_well_formed_in rows_well_formed_in row_well_formed_in all_unused cells_of_in cell_at cell_of_in added_cells add departure_of arrival_of enter_both enter put_in_order without_containing has_inside latest_departure earliest_arrival latest_departing earliest_arriving later sooner stands holds_in cells_changed sum_below count_below same_cell in_log_order listed held_contacts_in log_words_in write_refusal_in write_answer_in write_leaves_in those remove_refusal remaining table_without remove_answer remove_leaves remove_work cells_over add_all SetAfterAll
+unfolding open_answer open_leaves open_refusal table_words flat cell_words run_list add_leaves add_answer add_refusal is_open is_of well_formed all_below cell_well_formed rows_well_formed row_well_formed all_unused cells_of cell_at cell_of added_cells add departure_of arrival_of enter_both enter put_in_order without_containing has_inside latest_departure earliest_arrival latest_departing earliest_arriving later sooner stands holds cells_changed sum_below count_below same_cell in_log_order listed held_contacts log_words write_refusal write_answer write_leaves those remove_refusal remaining table_without remove_answer remove_leaves remove_work cells_over add_all SetAfterAll
 rejected =
     record {
       leaves_table = λ d. (let w : ◌≡◌ {A = ℕ} 0xC000_0000 0xC000_0001 = same_word leaves_table d refl (addition (contact 0 2 1) ∷ []) 7 in omega arith);
@@ -158,7 +158,7 @@ not_there : (i j : Interval) → (i.departure ≡ j.departure → ⊥) → Mem�
 not_there i j h m = ⊎_elim (λ e. h (ap (λ (k : Interval). k.departure) e)) Memᴰ.not-nil (Memᴰ.cases_cons m)
 
 pub rejected_tables : RejectedTables
-unfolding open_answer open_leaves open_refusal table_words_in flat cell_words_in run_list add_leaves add_refusal is_open_in is_of well_formed_in all_below cell_well_formed_in rows_well_formed_in row_well_formed_in all_unused cells_of_in cell_at cell_of_in added_cells add departure_of arrival_of enter_both enter put_in_order without_containing has_inside latest_departure earliest_arrival latest_departing earliest_arriving later sooner stands holds_in in_log_order listed those remove_refusal remaining table_without remove_answer remove_leaves cells_over add_all
+unfolding open_answer open_leaves open_refusal table_words flat cell_words run_list add_leaves add_refusal is_open is_of well_formed all_below cell_well_formed rows_well_formed row_well_formed all_unused cells_of cell_at cell_of added_cells add departure_of arrival_of enter_both enter put_in_order without_containing has_inside latest_departure earliest_arrival latest_departing earliest_arriving later sooner stands holds in_log_order listed those remove_refusal remaining table_without remove_answer remove_leaves cells_over add_all
 rejected_tables =
     record {
       leaves_table = λ Q d. Memᴰ.not-nil ((same-stored leaves_table Q d refl (addition (contact 0 2 1) ∷ []) 0 2 pair-02 (interval 1 2)).1 (Memᴰ.head refl));

@@ -14,8 +14,8 @@ use Rattle.rules.specs.declared.AskAnswer.TheVariants.{Yes, No, Refused as AskRe
 use Rattle.rules.specs.declared.IntervalAnswer.{IntervalAnswer}
 use Rattle.rules.specs.declared.IntervalAnswer.TheVariants.{At, Nothing, Refused as IntervalRefused}
 use Rattle.rules.specs.Folds.{flat, all_below, sum_below, count_below, any_of}
-use Rattle.rules.specs.Layout.{cell_words_in, table_words_in, cell_at, cell_of_in, cells_of_in}
-use Rattle.rules.specs.Checks.{is_open_in, row_well_formed_in, rows_well_formed_in, all_unused, cell_well_formed_in, well_formed_in}
+use Rattle.rules.specs.Layout.{cell_words, table_words, cell_at, cell_of, cells_of}
+use Rattle.rules.specs.Checks.{is_open, row_well_formed, rows_well_formed, all_unused, cell_well_formed, well_formed}
 use Rattle.rules.specs.Opening.{open_refusal, open_answer, open_leaves}
 use Rattle.rules.specs.Adding.{stands, add_refusal, added_cells, add_leaves}
 use Rattle.rules.specs.Adding as Adding
@@ -112,7 +112,7 @@ abbrev goes_to : List ℕ → ℕ
 goes_to B = (contact_of (get_or B 0 0)).to
 
 pub rejected_answers : RejectedAnswers
-unfolding open_answer open_leaves open_refusal table_words_in flat cell_words_in run add_leaves add_refusal is_open_in is_of well_formed_in all_below cell_well_formed_in rows_well_formed_in row_well_formed_in all_unused cells_of_in cell_at cell_of_in added_cells add departure_of arrival_of enter_both enter put_in_order without_containing has_inside latest_departure earliest_arrival latest_departing earliest_arriving later sooner reaches reach_refusal reach_answer moment_refusal earliest_answer latest_answer last_of_cell departing_before arriving_after connects connected_refusal connected_answer is_reached set_word set_words sum_below any_of reached_refusal reached_words reached_count count_below departure_with leads lowest chain_from chain_of chain_refusal chain_leaves first_of chain_from_of down_from stands Adding.holds_in
+unfolding open_answer open_leaves open_refusal table_words flat cell_words run add_leaves add_refusal is_open is_of well_formed all_below cell_well_formed rows_well_formed row_well_formed all_unused cells_of cell_at cell_of added_cells add departure_of arrival_of enter_both enter put_in_order without_containing has_inside latest_departure earliest_arrival latest_departing earliest_arriving later sooner reaches reach_refusal reach_answer moment_refusal earliest_answer latest_answer last_of_cell departing_before arriving_after connects connected_refusal connected_answer is_reached set_word set_words sum_below any_of reached_refusal reached_words reached_count count_below departure_with leads lowest chain_from chain_of chain_refusal chain_leaves first_of chain_from_of down_from stands Adding.holds
 rejected_answers =
     record {
       always_no = λ E d. (let z : ◌≡◌ {A = ℕ} 2 1 = same-reach always_no (on-forked d) 1 2 (omega arith) (omega arith) (omega arith) in omega arith);

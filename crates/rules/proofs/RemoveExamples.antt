@@ -5,9 +5,9 @@ use Rattle.journeys.specs.Cell.{latest_departure, earliest_arrival, latest_depar
 use Rattle.journeys.specs.Adding as Rule
 use Rattle.words.specs.Layout.{is_of}
 use Rattle.rules.specs.Folds.{flat, all_below}
-use Rattle.rules.specs.Layout.{cell_words_in, table_words_in, cell_at, cell_of_in, cells_of_in}
-use Rattle.rules.specs.Checks.{is_open_in, row_well_formed_in, rows_well_formed_in, all_unused, cell_well_formed_in, well_formed_in}
-use Rattle.rules.specs.Adding.{stands, holds_in}
+use Rattle.rules.specs.Layout.{cell_words, table_words, cell_at, cell_of, cells_of}
+use Rattle.rules.specs.Checks.{is_open, row_well_formed, rows_well_formed, all_unused, cell_well_formed, well_formed}
+use Rattle.rules.specs.Adding.{stands, holds}
 use Rattle.rules.specs.Orders.{listed, in_log_order}
 use Rattle.rules.specs.Removing.{remove_refusal, remaining, table_without, remove_answer, remove_leaves, remove_work}
 use Rattle.rules.specs.RemoveExamples.{RemoveRow, remove_of, remove_rows, RemovesWorked}
@@ -15,9 +15,9 @@ use Rattle.rules.proofs.Folds.{map-agree}
 
 computed : map remove_of remove_rows ≡ map (λ r. r.given) remove_rows
 unfolding
-    table_words_in flat cell_words_in is_open_in is_of well_formed_in all_below cell_well_formed_in rows_well_formed_in row_well_formed_in all_unused
-    cells_of_in cell_at cell_of_in Rule.cells_over Rule.add_all Rule.add Rule.departure_of Rule.arrival_of Rule.enter_both enter put_in_order without_containing has_inside latest_departure earliest_arrival latest_departing earliest_arriving later sooner
-    stands holds_in in_log_order listed remove_refusal remaining table_without remove_answer remove_leaves remove_work
+    table_words flat cell_words is_open is_of well_formed all_below cell_well_formed rows_well_formed row_well_formed all_unused
+    cells_of cell_at cell_of Rule.cells_over Rule.add_all Rule.add Rule.departure_of Rule.arrival_of Rule.enter_both enter put_in_order without_containing has_inside latest_departure earliest_arrival latest_departing earliest_arriving later sooner
+    stands holds in_log_order listed remove_refusal remaining table_without remove_answer remove_leaves remove_work
 computed = refl
 
 pub removes_worked : RemovesWorked

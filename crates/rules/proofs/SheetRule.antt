@@ -1,16 +1,16 @@
 -- The printing program prints as its limits say, on each side of each.
 use Prim.Native.Nat.{ℕ, ◌%◌, ◌≤◌, ◌<◌}
-use mathlib.Core.Path.{◌≡◌, refl, sym, ap, ap₂, ◌∙◌}
-use mathlib.Core.Logic.{◌⊎◌, ◌≢◌, ⊎_elim}
+use mathlib.Core.Path.{◌≡◌, refl, sym, ap, ap₂, ◌∙◌, subst}
+use mathlib.Core.Logic.{◌⊎◌, ◌≢◌, inl, inr, ⊎_elim}
 use mathlib.Core.Bool.{Bool, true, false, cond, not, ◌&&◌}
-use mathlib.Core.List.{List}
+use mathlib.Core.List.{List, [], ◌∷◌}
 use native.Mathlib.Omega.{arith}
-use lib.ListN.{length, get_or}
-use lib.Dec.{leb}
+use lib.ListN.{length, get_or, replicate}
+use lib.Dec.{leb, ltb, eqb}
 use borrow.Author.Tests.{eq-eqb, ne_eqb, le-leb, lt-leb, lt-ltb, le-ltb}
 use Rattle.journeys.specs.Journey.{Contact, In}
 use Rattle.words.specs.Layout.{is_of}
-use Rattle.words.specs.Words.{opening_layout, animals_of, ticks_of}
+use Rattle.words.specs.Words.{opening_layout, opening_word, animals_of, ticks_of}
 use Rattle.words.proofs.Packed.{opening_word-is}
 use Rattle.rules.specs.declared.Refusal.{Refusal}
 use Rattle.rules.specs.declared.Refusal.TheVariants.{NotALog}
@@ -19,7 +19,7 @@ use Rattle.rules.specs.Answers.{number_of}
 use Rattle.rules.specs.Layout.{table_length, animals, ticks}
 use Rattle.rules.specs.Opening.{Sizes}
 use Rattle.rules.specs.Fresh.{Fresh}
-use Rattle.rules.specs.Reading.{read_refusal_in, read_answer, read_answer_in, read_leaves}
+use Rattle.rules.specs.Reading.{read_refusal, read_answer, read_leaves}
 use Rattle.rules.specs.LogsRead.{IsLog}
 use Rattle.rules.specs.Sheet.{most_bytes, most_animals, most_ticks, words_of, too_large, not_whole_words, refused_text, table_text, is_beyond, read_text, log_text, sheet_text}
 use Rattle.rules.specs.SheetRule.{WholeWords, OpensWith, SheetRule}
@@ -82,7 +82,7 @@ module _ {n τ δ : ℕ} {B : List ℕ} (o : OpensWith n τ δ B) where
 
 -- Reading asks the table for its length alone.
 refused-alike : (L T U : List ℕ) → length T ≡ length U → (r : Refusal) → read_answer L T ≡ Refused r → read_answer L U ≡ Refused r
-unfolding read_answer_in read_refusal_in
+unfolding read_answer read_refusal
 refused-alike L T U e r h = rw e at h
 
 -- What reading refuses is printed with its number.
@@ -91,7 +91,7 @@ unfolding log_text
 refused-text L r e = ap (λ a. read_text a (read_leaves L (zeros (animals L) (ticks L)))) e
 
 no_opening : (B : List ℕ) → WholeWords B → is_of opening_layout (get_or (words_of B) 0 0) ≡ false → sheet_text B ≡ refused_text 11
-unfolding is_beyond read_answer_in read_refusal_in
+unfolding is_beyond read_answer read_refusal
 no_opening B w e =
     whole-sheet B w false (rw e refl) ∙ refused-text (words_of B) NotALog (rw (e, and-false (leb 2 (length (words_of B)))) refl)
 

@@ -1,24 +1,27 @@
 -- The checks are sound: a table that passes 5 and 6 is its opening word and the packed words of its decoded cells.
 use mathlib.Core.Path.{◌≡◌, refl, sym, ap, ap₂, ◌∙◌, subst}
+use mathlib.Core.Logic.{◌≢◌}
 use mathlib.Core.Bool.{Bool, true, false, cond, ◌&&◌}
 use mathlib.Core.List.Memᴰ
 use mathlib.Core.List.{List, [], ◌∷◌, ◌++◌, map, Memᴰ}
 use mathlib.Core.Logic.{◌⊎◌, ⊎_elim}
-use Prim.Native.Nat.{ℕ, ◌+◌, ◌-◌, ◌*◌, ◌≤◌, ◌<◌}
+use Prim.Native.Nat.{ℕ, zero, suc, ◌+◌, ◌-◌, ◌*◌, ◌≤◌, ◌<◌}
 use native.Mathlib.Omega.{arith}
+use native.Mathlib.Decide.{ℕ_discrete}
 use lib.ListN.{length, get_or, take, drop, replicate, length-map, length-drop, take-append-drop}
 use lib.Seq.{drop-drop, length-take-le}
 use lib.Dec.{ltb, leb, eqb}
-use borrow.Author.Tests.{eq-eqb, eqb-true, leb-true, ltb-true}
+use borrow.Author.Tests.{eq-eqb, ne_eqb, eqb-true, leb-true, ltb-true}
 use Rattle.journeys.specs.Journey.{Interval, interval}
-use Rattle.journeys.specs.Cell.{Cell, Rising, Limits, WellFormedCell}
-use Rattle.words.specs.Layout.{is_of}
-use Rattle.words.specs.Words.{opening_layout, opening_word, count_layout, count_word, interval_layout, interval_word, interval_of, unused_layout, unused_word, rows_of}
+use Rattle.journeys.specs.Cell.{Cell, Before, Rising, Limits, WellFormedCell}
+use Rattle.journeys.specs.Adding.{Cells}
+use Rattle.words.specs.Layout.{get, is_of}
+use Rattle.words.specs.Words.{opening_layout, opening_word, count_layout, count_word, rows_field, interval_layout, interval_word, interval_of, departure_field, arrival_field, unused_layout, unused_word}
 use Rattle.words.proofs.Packed.{interval_word-of, opening_word-of, animals_of-bound, ticks_of-bound, carry_of-bound, count_word-of, unused_word-only}
-use Rattle.rules.specs.Folds.{all_below}
-use Rattle.rules.specs.Layout.{table_length, cell_words, cell_words_in, table_words, table_words_in, animals, ticks, carry, cell_at, cell_of, cell_of_in, cells_of, cells_of_in}
+use Rattle.rules.specs.Folds.{flat, all_below}
+use Rattle.rules.specs.Layout.{table_length, cell_words, table_words, animals, ticks, carry, cell_at, cell_of, cells_of}
 use Rattle.rules.specs.Opening.{Sizes}
-use Rattle.rules.specs.Checks.{is_open, is_open_in, row_well_formed, row_well_formed_in, rows_well_formed, rows_well_formed_in, all_unused, cell_well_formed, cell_well_formed_in, well_formed_in, ValidTable, WellFormedBelow}
+use Rattle.rules.specs.Checks.{is_open, row_well_formed, rows_well_formed, all_unused, cell_well_formed, well_formed, ValidTable, WellFormedBelow}
 use Rattle.rules.proofs.Folds.{and_left, and_right, below_all, part-inside, body-parts, flat-same}
 
 -- ---- a cell
@@ -27,14 +30,14 @@ module _ (τ δ : ℕ) where
   -- What a row that passes is.
   record FineRow (p q w : ℕ) : Type 0 where
     pub word : interval_word (interval_of w) ≡ w
-    pub after : (p < (interval_of w).departure) × (q < (interval_of w).arrival)
+    pub after : (p < get departure_field w) × (q < get arrival_field w)
     pub limits : Limits τ δ (interval_of w)
 
   fine_row : (p q w : ℕ) → row_well_formed τ δ p q w ≡ true → FineRow p q w
-  unfolding row_well_formed_in
+  unfolding row_well_formed
   fine_row p q w e₅ =
-      let d = (interval_of w).departure in
-      let a = (interval_of w).arrival in
+      let d = get departure_field w in
+      let a = get arrival_field w in
       let b₁ = is_of interval_layout w in
       let b₂ = b₁ && ltb p d in
       let b₃ = b₂ && ltb q a in
@@ -66,7 +69,7 @@ module _ (τ δ : ℕ) where
     pub words : map interval_word (map interval_of ws) ≡ ws
 
   fine_rows : (i : Interval) (ws : List ℕ) → rows_well_formed τ δ i.departure i.arrival ws ≡ true → FineRows i ws
-  unfolding rows_well_formed_in
+  unfolding rows_well_formed
   fine_rows i [] e = record { rising = (tt, tt); limits = λ j m. absurd (Memᴰ.not-nil m); words = refl }
   fine_rows i (w ∷ ws) e =
       let r = fine_row i.departure i.arrival w (and_left (row_well_formed τ δ i.departure i.arrival w) _ e) in
@@ -89,12 +92,12 @@ module _ (τ δ : ℕ) where
     pub words : xs ≡ cell_words τ (cell_of xs)
 
   pub fine_cell : (m : ℕ) (xs : List ℕ) → m ≤ τ → length xs ≡ τ + 1 → cell_well_formed τ δ m xs ≡ true → FineCell m xs
-  unfolding cell_well_formed_in cell_of_in cell_words_in
+  unfolding cell_well_formed cell_of cell_words
   fine_cell m [] h l e = absurd (omega arith)
   fine_cell m (w ∷ ws) h l e = record { formed = record { rising = r.rising.1; limits = r.limits }; small = omega (arith, k, n); words = words }
     where
       count : ℕ
-      count = rows_of w
+      count = get rows_field w
 
       b₁ : Bool
       b₁ = is_of count_layout w
@@ -155,11 +158,11 @@ first-and_rest (w ∷ L) h = refl
 
 -- A table that passes 5 has the opening word of its numbers first, and the length for it.
 pub opens-first : (T : List ℕ) → is_open T ≡ true → opening_word (animals T) (ticks T) (carry T) ≡ get_or T 0 0
-unfolding is_open_in
+unfolding is_open
 opens-first T e = opening_word-of (get_or T 0 0) (and_left (is_of opening_layout (get_or T 0 0)) _ e)
 
 pub opens-length : (T : List ℕ) → is_open T ≡ true → length T ≡ table_length (animals T) (ticks T)
-unfolding is_open_in
+unfolding is_open
 opens-length T e = eqb-true (length T) (table_length (animals T) (ticks T)) (and_right (is_of opening_layout (get_or T 0 0)) _ e)
 
 module _ (T : List ℕ) (p : ValidTable T) where
@@ -180,7 +183,7 @@ module _ (T : List ℕ) (p : ValidTable T) where
       length-take-le (τ + 1) (drop (1 + (x * n + y) * (τ + 1)) T) (omega (arith, b, opens-length T p.opens, length-drop (1 + (x * n + y) * (τ + 1)) T))
 
   part-fine : (x y : ℕ) → x < n → y < n → cell_well_formed τ δ (cond (eqb x y) 0 τ) (cell_at n τ T x y) ≡ true
-  unfolding well_formed_in
+  unfolding well_formed
   part-fine x y h k =
       below_all (λ y. cell_well_formed τ δ (cond (eqb x y) 0 τ) (cell_at n τ T x y)) n
       (below_all (λ x. all_below (λ y. cell_well_formed τ δ (cond (eqb x y) 0 τ) (cell_at n τ T x y)) n) n p.formed x h) y k
@@ -194,12 +197,12 @@ module _ (T : List ℕ) (p : ValidTable T) where
 
   -- The words of each cell are the packed words of its intervals.
   pub part-words : (x y : ℕ) → x < n → y < n → cell_at n τ T x y ≡ cell_words τ (cells_of T x y)
-  unfolding cells_of_in
+  unfolding cells_of
   part-words x y h k = (part-cell x y h k).words
 
   -- The cells are well formed, and each (x, x) is empty.
   pub passes-good : WellFormedBelow n τ δ (cells_of T)
-  unfolding cells_of_in
+  unfolding cells_of
   passes-good =
       record {
         cells = λ x y h k. (part-cell x y h k).formed;
@@ -208,7 +211,7 @@ module _ (T : List ℕ) (p : ValidTable T) where
 
   -- A table that passes 5 and 6 is its opening word and the packed words of its decoded cells.
   pub passes-table : T ≡ table_words n τ δ (cells_of T)
-  unfolding table_words_in
+  unfolding table_words
   passes-table =
       first-and_rest T (omega (arith, opens-length T p.opens))
       ∙ ap₂ ◌∷◌ (sym (opens-first T p.opens))

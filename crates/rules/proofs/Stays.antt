@@ -430,8 +430,8 @@ module _ (T A B : List ℕ) (w : is_whole A ≡ is_whole B) (e : (s : Stay) → 
       sorted-unique Earlier earlier-irreflexive earlier-transitive (stay_contacts T A) (stay_contacts T B) (in_log_order_lem T A) (in_log_order_lem T B)
       (λ k. (listed_same A B e T k, listed_same B A turned T k))
 
-  judged-same : ensure_stays T A none ≡ ensure_stays T B none
-  judged-same = go (ensure_stays T A none) (ensure_stays T B none) refl refl
+  judged_same : ensure_stays T A none ≡ ensure_stays T B none
+  judged_same = go (ensure_stays T A none) (ensure_stays T B none) refl refl
     where
       go : (o q : Option Refusal) → ensure_stays T A none ≡ o → ensure_stays T B none ≡ q → o ≡ q
       go none none f g = refl
@@ -441,7 +441,7 @@ module _ (T A B : List ℕ) (w : is_whole A ≡ is_whole B) (e : (s : Stay) → 
 
   any_order : (stays_answer T A ≡ stays_answer T B) × (stays_leaves T A ≡ stays_leaves T B)
   unfolding stays_answer stays_leaves stays_refusal
-  any_order = rw (judged-same, contacts-same) (refl, refl)
+  any_order = rw (judged_same, contacts-same) (refl, refl)
 
 no_stays : (T : List ℕ) → ValidTable T → (stays_answer T [] ≡ Added 0) × (stays_leaves T [] ≡ T)
 unfolding stays_of flat run new_adds

@@ -73,4 +73,4 @@ fresh_after : (n τ δ : ℕ) (words : List ℕ) (A : List TableCall) → open_a
 fresh_after n τ δ words A e = calls_after A (open_fresh n τ δ words ((open_none n τ δ words).0 e))
 
 pub table_calls : TableCalls
-table_calls = record { fresh_after = fresh_after; fresh_on = λ n τ δ P T A f. calls_after A f; equal_tables = λ n τ δ wordsA wordsB A B p q. fresh-equal (fresh_after n τ δ wordsA A p) (fresh_after n τ δ wordsB B q) }
+table_calls = record { fresh_after = fresh_after; equal_tables = λ n τ δ wordsA wordsB A B p q. fresh-equal (fresh_after n τ δ wordsA A p) (fresh_after n τ δ wordsB B q) }

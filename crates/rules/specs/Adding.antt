@@ -4,14 +4,13 @@ use Rattle.std.proofs.Math.Option.{Option, none}
 use Rattle.journeys.specs.Journey.{Contact, Interval, interval}
 use Rattle.journeys.specs.Cell.{Cell}
 use Rattle.journeys.specs.Adding.{Cells, add}
-use Rattle.words.specs.Formats.{Format, new_format}
 use Rattle.rules.specs.declared.Refusal.{Refusal}
 use Rattle.rules.specs.declared.Refusal.TheVariants.{NoSuchAnimal, SameAnimal, TickOutOfRange}
 use Rattle.rules.specs.declared.AddAnswer.{AddAnswer}
 use Rattle.rules.specs.declared.AddAnswer.TheVariants.{New, Known}
 use Rattle.rules.specs.Answers.{ensure, unless, add_answer_of}
 use Rattle.rules.specs.Folds.{sum_below, count_below, within}
-use Rattle.rules.specs.Layout.{table_words, animals, ticks, carry, cells_of, cells_of_in}
+use Rattle.rules.specs.Layout.{table_words, animals, ticks, carry, cells_of}
 use Rattle.rules.specs.Checks.{ensure_table}
 
 -- The contact is legal for n animals and τ ticks: two different animals of them, and one of the ticks from 1.
@@ -62,11 +61,8 @@ unfoldable pub added_cells : List ℕ → Contact → Cells
 added_cells T k = add (carry T) (cells_of T) k
 
 -- The table holds the contact: its own interval stands in the cell of its animals.
-unfoldable pub holds_in : Format → List ℕ → Contact → Bool
-holds_in F T k = stands (interval k.tick (k.tick + carry T)) (cells_of_in F T k.from k.to)
-
-abbrev pub holds : List ℕ → Contact → Bool
-holds = holds_in new_format
+unfoldable pub holds : List ℕ → Contact → Bool
+holds T k = stands (interval k.tick (k.tick + carry T)) (cells_of T k.from k.to)
 
 -- New or known, and how many cells changed.
 unfoldable pub add_answer : List ℕ → Contact → AddAnswer

@@ -28,7 +28,6 @@ use Rattle.rules.specs.Stays.{stays_answer, stays_leaves}
 use Rattle.rules.specs.Questions.{reached_answer, reached_words, reached_count, reached_leaves}
 use Rattle.rules.specs.Chains.{chain_answer, chain_leaves}
 use Rattle.rules.specs.Removing.{remove_answer, remove_leaves, remove_work}
-use Rattle.rules.specs.CarryingOver.{carry_over_answer, carry_over_leaves}
 use Rattle.rules.specs.Counting.{full_tally, counted_answer, counted_leaves, counted_tally, counted_removal, counted_removal_leaves, counted_removal_work, counted_removal_tally}
 use Rattle.rules.specs.QuestionList.{list_answer, list_leaves}
 
@@ -45,7 +44,6 @@ pub record Demand1 : Type 0 where
   pub write_refused : (T B : List ℕ) (r : Refusal) → write_answer T B ≡ WriteRefused r → write_leaves T B ≡ B
   pub read_refused : (L T : List ℕ) (r : Refusal) → read_answer L T ≡ ReadRefused r → read_leaves L T ≡ T
   pub join_refused : (F S : List ℕ) (r : Refusal) → join_answer F S ≡ JoinRefused r → join_leaves F S ≡ F
-  pub carry_over_refused : (O N : List ℕ) (r : Refusal) → carry_over_answer O N ≡ DoneRefused r → carry_over_leaves O N ≡ N
   pub stays_refused : (T W : List ℕ) (r : Refusal) → stays_answer T W ≡ StaysRefused r → stays_leaves T W ≡ T
   pub chain_refused : (T : List ℕ) (u v first last : ℕ) (B : List ℕ) (r : Refusal) → chain_answer T u v first last B ≡ ChainRefused r → chain_leaves T u v first last B ≡ B
   pub counted_refused : (t : Tally) (T : List ℕ) (k : Contact) (r : Refusal) → counted_answer t T k ≡ AddRefused r → counted_leaves t T k ≡ T
@@ -62,8 +60,7 @@ pub record Demand1 : Type 0 where
       → counted_removal_tally t T W k ≡ record { new = t.new; known = t.known; refused = t.refused + 1; removed = t.removed }
   pub removal_full : (t : Tally) (T W : List ℕ) (k : Contact) → (counted_removal t T W k ≡ DoneRefused TallyFull) ↔ (full_tally ≤ t.new + t.known + t.refused + t.removed)
   pub removal_full_kept : (t : Tally) (T W : List ℕ) (k : Contact) → counted_removal t T W k ≡ DoneRefused TallyFull → counted_removal_tally t T W k ≡ t
-  -- The other questions only read; a join only reads its second table, stays only their records, and carrying over only its old
-  -- table. A refused question for the animals
+  -- The other questions only read; a join only reads its second table, and stays only their records. A refused question for the animals
   -- reached gives an empty set.
   pub reached_empty : (T : List ℕ) (u first last : ℕ) (r : Refusal) → reached_answer T u first last ≡ SetRefused r
       → (reached_words T u first last ≡ replicate 8 0) × (reached_count T u first last ≡ 0)
@@ -74,14 +71,13 @@ pub record Demand1 : Type 0 where
   pub write_length : (T B : List ℕ) → length (write_leaves T B) ≡ length B
   pub read_length : (L T : List ℕ) → length (read_leaves L T) ≡ length T
   pub join_length : (F S : List ℕ) → length (join_leaves F S) ≡ length F
-  pub carry_over_length : (O N : List ℕ) → length (carry_over_leaves O N) ≡ length N
   pub stays_length : (T W : List ℕ) → length (stays_leaves T W) ≡ length T
   pub counted_length : (t : Tally) (T : List ℕ) (k : Contact) → length (counted_leaves t T k) ≡ length T
   pub removal_length : (t : Tally) (T W : List ℕ) (k : Contact) → (length (counted_removal_leaves t T W k) ≡ length T) × (length (counted_removal_work t T W k) ≡ length W)
   pub list_length : (T : List ℕ) (l : List Question) → length (list_leaves T l) ≡ length l
   pub reached_length : (T : List ℕ) (u first last : ℕ) (B : List ℕ) → length (reached_leaves T u first last B) ≡ length B
   pub chain_length : (T : List ℕ) (u v first last : ℕ) (B : List ℕ) → length (chain_leaves T u v first last B) ≡ length B
-  -- Opening, reading a log, carrying a table over, and every add to a table that passes 5 and 6 and every removal from one, counted or not, every join into one and every
+  -- Opening, reading a log, and every add to a table that passes 5 and 6 and every removal from one, counted or not, every join into one and every
   -- list of stays added to one leave a table that passes them; a removal that is done leaves two.
   pub open_valid : (n τ δ : ℕ) (T : List ℕ) → open_answer n τ δ T ≡ Opened → ValidTable (open_leaves n τ δ T)
   pub read_valid : (L T : List ℕ) (k : ℕ) → read_answer L T ≡ Read k → ValidTable (read_leaves L T)
@@ -89,7 +85,6 @@ pub record Demand1 : Type 0 where
   pub remove_valid : (T W : List ℕ) (k : Contact) → ValidTable T → ValidTable (remove_leaves T W k)
   pub remove_both_valid : (T W : List ℕ) (k : Contact) → remove_answer T W k ≡ Done → ValidTable (remove_leaves T W k) × ValidTable (remove_work T W k)
   pub join_valid : (F S : List ℕ) → ValidTable F → ValidTable (join_leaves F S)
-  pub carry_over_valid : (O N : List ℕ) → carry_over_answer O N ≡ Done → ValidTable (carry_over_leaves O N)
   pub stays_valid : (T W : List ℕ) → ValidTable T → ValidTable (stays_leaves T W)
   pub counted_valid : (t : Tally) (T : List ℕ) (k : Contact) → ValidTable T → ValidTable (counted_leaves t T k)
   pub removal_valid : (t : Tally) (T W : List ℕ) (k : Contact) → ValidTable T → ValidTable (counted_removal_leaves t T W k)

@@ -2,20 +2,16 @@
 use Rattle.std.specs.Prelude.{ℕ, ◌≡◌, List}
 use Rattle.journeys.specs.Journey.{Contact, Contacts}
 use Rattle.journeys.specs.Adding.{Cells, CellsOf}
-use Rattle.words.specs.Formats.{Format, new_format}
-use Rattle.rules.specs.Layout.{table_words_in}
+use Rattle.rules.specs.Layout.{table_words}
 use Rattle.rules.specs.Opening.{Sizes}
 use Rattle.rules.specs.Adding.{Legal}
 
--- T is fresh over S: S has legal contacts only, and T is the table, in the layout of `table_words_in`, whose cells list the minimal intervals of
+-- T is fresh over S: S has legal contacts only, and T is the table, in the layout of `table_words`, whose cells list the minimal intervals of
 -- S, none for an animal to itself. "Fresh" is document 01's word for what a table over S holds, however it came about; it need not be newly
 -- opened.
-pub record FreshIn (F : Format) (n τ δ : ℕ) (S : Contacts) (T : List ℕ) : Type 0 where
+pub record Fresh (n τ δ : ℕ) (S : Contacts) (T : List ℕ) : Type 0 where
   pub sizes : Sizes n τ δ
   pub legal : (k : Contact) → S k → Legal n τ k
   pub cells : Cells
   pub minimal : CellsOf S δ cells
-  pub words : T ≡ table_words_in F n τ δ cells
-
-abbrev pub Fresh : ℕ → ℕ → ℕ → Contacts → List ℕ → Type 0
-Fresh = FreshIn new_format
+  pub words : T ≡ table_words n τ δ cells

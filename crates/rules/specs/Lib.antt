@@ -14,8 +14,6 @@ pub mod AnyOrder
 pub mod Joining
 pub mod JoinRule
 pub mod RemoveRule
-pub mod CarryingOver
-pub mod CarryOverRule
 pub mod Stays
 pub mod StayRule
 pub mod TableCalls
@@ -36,7 +34,6 @@ pub mod Demand2
 pub mod Demand3
 pub mod NamedChains
 pub mod LogsRead
-pub mod OldLogs
 pub mod SheetRule
 pub mod CountedCalls
 pub mod ListRule
@@ -48,7 +45,6 @@ pub mod Examples
 pub mod LogExamples
 pub mod JoinExamples
 pub mod RemoveExamples
-pub mod CarryExamples
 pub mod StayExamples
 pub mod Session
 pub mod Promised

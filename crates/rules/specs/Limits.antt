@@ -6,9 +6,9 @@ use Rattle.std.specs.Prelude.{ℕ, ◌+◌, ◌-◌, ◌*◌}
 abbrev pub max_animals : ℕ
 max_animals = 256
 
--- τ is 1 to 4,096.
+-- τ is 1 to 1,024.
 abbrev pub max_ticks : ℕ
-max_ticks = 4096
+max_ticks = 1024
 
 -- δ is 1 to 256.
 abbrev pub max_carry : ℕ

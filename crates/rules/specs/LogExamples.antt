@@ -1,5 +1,5 @@
--- Logs that are read and logs that are refused, as one table, most of them on the session's opening word 800C0005: n = 4, τ = 6, δ = 1, a table
--- of 113 words.
+-- Logs that are read and logs that are refused, as one table on the session's opening word 800C0005: n = 4, τ = 6, δ = 1, a
+-- table of 113 words.
 use Rattle.std.specs.Prelude.{ℕ, ◌≡◌, replicate}
 use mathlib.Core.List.{List, [], ◌∷◌, Memᴰ}
 use Rattle.rules.specs.declared.Refusal.TheVariants.{NotALog, WrongLength, NotAContact, IllegalContact, WrongEnd}
@@ -36,21 +36,19 @@ log_rows =
     ∷ reads (0x40000802 ∷ 0xC0000000 ∷ []) 113 (Refused NotALog)
     -- 11: a contact word first.
     ∷ reads (0x40000400 ∷ 0xC0000000 ∷ []) 113 (Refused NotALog)
-    -- 11: an opening word with bit 28 set first.
-    ∷ reads (0x900C0005 ∷ 0xC0000000 ∷ []) 113 (Refused NotALog)
+    -- 11: an opening word with bit 26 set first.
+    ∷ reads (0x840C0005 ∷ 0xC0000000 ∷ []) 113 (Refused NotALog)
     -- 4: a table one word too short, and one a word too long.
     ∷ reads (0x800C0005 ∷ 0x40000400 ∷ 0xC0000001 ∷ []) 112 (Refused WrongLength)
     ∷ reads (0x800C0005 ∷ 0x40000400 ∷ 0xC0000001 ∷ []) 114 (Refused WrongLength)
-    -- 4: an opening word with bit 26 set, so of 1,030 ticks.
-    ∷ reads (0x840C0005 ∷ 0x40000400 ∷ 0xC0000001 ∷ []) 113 (Refused WrongLength)
     -- 4 comes before 12.
     ∷ reads (0x800C0005 ∷ 0x00000000 ∷ 0xC0000001 ∷ []) 112 (Refused WrongLength)
     -- 12: words of the other three kinds.
     ∷ reads (0x800C0005 ∷ 0x00000000 ∷ 0xC0000001 ∷ []) 113 (Refused NotAContact)
     ∷ reads (0x800C0005 ∷ 0x800C0005 ∷ 0xC0000001 ∷ []) 113 (Refused NotAContact)
     ∷ reads (0x800C0005 ∷ 0xC0000001 ∷ 0xC0000001 ∷ []) 113 (Refused NotAContact)
-    -- 12: a contact word with bit 28 set.
-    ∷ reads (0x800C0005 ∷ 0x50000400 ∷ 0xC0000001 ∷ []) 113 (Refused NotAContact)
+    -- 12: a contact word with bit 26 set.
+    ∷ reads (0x800C0005 ∷ 0x44000400 ∷ 0xC0000001 ∷ []) 113 (Refused NotAContact)
     -- 13: animal 4 as u, and as v.
     ∷ reads (0x800C0005 ∷ 0x40100400 ∷ 0xC0000001 ∷ []) 113 (Refused IllegalContact)
     ∷ reads (0x800C0005 ∷ 0x40001000 ∷ 0xC0000001 ∷ []) 113 (Refused IllegalContact)
@@ -58,11 +56,6 @@ log_rows =
     ∷ reads (0x800C0005 ∷ 0x40040400 ∷ 0xC0000001 ∷ []) 113 (Refused IllegalContact)
     -- 13: t = 7.
     ∷ reads (0x800C0005 ∷ 0x40000406 ∷ 0xC0000001 ∷ []) 113 (Refused IllegalContact)
-    -- 13: t = 1,025, a contact word with bit 26 set.
-    ∷ reads (0x800C0005 ∷ 0x44000400 ∷ 0xC0000001 ∷ []) 113 (Refused IllegalContact)
-    -- Two animals and 1,026 ticks, a table of 4,109 words: t = 1,026, and 13 for t = 1,027.
-    ∷ reads (0x84040001 ∷ 0x44000401 ∷ 0xC0000001 ∷ []) 4109 (Read 1)
-    ∷ reads (0x84040001 ∷ 0x44000402 ∷ 0xC0000001 ∷ []) 4109 (Refused IllegalContact)
     -- Of 12 and 13 the earlier word's counts.
     ∷ reads (0x800C0005 ∷ 0x00000000 ∷ 0x40040400 ∷ 0xC0000002 ∷ []) 113 (Refused NotAContact)
     ∷ reads (0x800C0005 ∷ 0x40040400 ∷ 0x00000000 ∷ 0xC0000002 ∷ []) 113 (Refused IllegalContact)
@@ -73,9 +66,8 @@ log_rows =
     ∷ reads (0x800C0005 ∷ 0x40000400 ∷ 0xC0000002 ∷ []) 113 (Refused WrongEnd)
     -- 14: a contact word last.
     ∷ reads (0x800C0005 ∷ 0x40000400 ∷ 0x40000401 ∷ []) 113 (Refused WrongEnd)
-    -- 14: an end word with bit 26 set, and one with bit 28 set.
+    -- 14: an end word with bit 26 set.
     ∷ reads (0x800C0005 ∷ 0x40000400 ∷ 0xC4000001 ∷ []) 113 (Refused WrongEnd)
-    ∷ reads (0x800C0005 ∷ 0x40000400 ∷ 0xD0000001 ∷ []) 113 (Refused WrongEnd)
     ∷ []
 
 -- Every log is answered so.

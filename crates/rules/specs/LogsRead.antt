@@ -1,8 +1,9 @@
 -- What reading a log means, and what the sheets of two logs have in common.
-use Rattle.std.specs.Prelude.{ℕ, ◌+◌, ◌%◌, ◌≤◌, ◌≡◌, ◌↔◌, length, take}
+use Rattle.std.specs.Prelude.{ℕ, ◌+◌, ◌%◌, ◌≤◌, ◌<◌, ◌≡◌, ◌↔◌, length, take}
 use mathlib.Core.List.{List, Memᴰ}
 use Rattle.journeys.specs.Journey.{Contact, Contacts, Same, In}
-use Rattle.words.specs.Words.{opening_word, most_logged}
+use Rattle.words.specs.Layout.{capacity}
+use Rattle.words.specs.Words.{opening_word, logged_field}
 use Rattle.rules.specs.declared.ReadAnswer.TheVariants.{Read}
 use Rattle.rules.specs.declared.WriteAnswer.TheVariants.{Written}
 use Rattle.rules.specs.Layout.{table_length}
@@ -19,7 +20,7 @@ use Rattle.rules.specs.Sheet.{most_bytes, words_of, sheet_text}
 pub record IsLog (n τ δ : ℕ) (l : List Contact) (L : List ℕ) : Type 0 where
   pub sizes : Sizes n τ δ
   pub legal : (k : Contact) → Memᴰ k l → Legal n τ k
-  pub few : length l ≤ most_logged
+  pub few : length l < capacity logged_field
   pub words : L ≡ log_words (opening_word n τ δ) l
 
 pub record LogsRead : Type 1 where

@@ -1,6 +1,5 @@
 -- Everything that is promised, in one declaration. `Promised` in proofs/ proves it.
 use Rattle.std.specs.Prelude.{◌≡◌}
-use Rattle.words.specs.WordExamples.{WordsWorked}
 use Rattle.rules.specs.CallLists.{engine}
 use Rattle.rules.specs.Demand1.{Demand1}
 use Rattle.rules.specs.Demand2.{questions, Demand2}
@@ -10,8 +9,6 @@ use Rattle.rules.specs.CountedCalls.{CountedRule}
 use Rattle.rules.specs.AnyOrder.{AnyOrder}
 use Rattle.rules.specs.JoinRule.{JoinRule}
 use Rattle.rules.specs.RemoveRule.{RemoveRule}
-use Rattle.rules.specs.CarryOverRule.{CarryOverRule}
-use Rattle.rules.specs.OldLogs.{OldLogs}
 use Rattle.rules.specs.StayRule.{StayRule}
 use Rattle.rules.specs.TableCalls.{TableCalls}
 use Rattle.rules.specs.ListRule.{ListRule, ListExamples}
@@ -26,7 +23,6 @@ use Rattle.rules.specs.Examples.{Marked, Worked}
 use Rattle.rules.specs.LogExamples.{LogsAnswered}
 use Rattle.rules.specs.JoinExamples.{JoinsWorked}
 use Rattle.rules.specs.RemoveExamples.{RemovesWorked}
-use Rattle.rules.specs.CarryExamples.{CarriesWorked, FormatsAlike}
 use Rattle.rules.specs.StayExamples.{StaysWorked}
 use Rattle.rules.specs.Session.{session_bytes, session_text}
 use Rattle.rules.specs.Determined.{Determined, DeterminedAnswers}
@@ -39,15 +35,13 @@ pub record Promised : Type 1 where
   pub demand2 : Demand2 engine questions
   pub demand3 : Demand3 engine
   -- What documents 01 and 02 say beside them: reading a log, counted calls, contacts added in any order to any table, removing a contact, joining two
-  -- tables, old tables carried over, old logs, stays, tables built by lists of calls, windows, the refusals of ticks, lists of questions, reach, the earliest arrival and the latest departure on
+  -- tables, stays, tables built by lists of calls, windows, the refusals of ticks, lists of questions, reach, the earliest arrival and the latest departure on
   -- tables that no adds built, claimed chains, the chain named, the sheet.
   pub logs_read : LogsRead
   pub counted_rule : CountedRule
   pub any_order : AnyOrder
   pub remove_rule : RemoveRule
   pub join_rule : JoinRule
-  pub carry_over_rule : CarryOverRule
-  pub old_logs : OldLogs
   pub stay_rule : StayRule
   pub table_calls : TableCalls
   pub window_rule : WindowRule
@@ -57,15 +51,12 @@ pub record Promised : Type 1 where
   pub claims_judged : ClaimsJudged
   pub named_chains : NamedChains
   pub sheet_rule : SheetRule
-  -- Examples: P1 to P9, those not marked, logs, joins, removals, words at the edges of their fields, tables carried over, a table in both formats, stays and lists of questions, and the session printed.
+  -- Examples: P1 to P9, those not marked, logs, joins, removals, stays and lists of questions, and the session printed.
   pub marked_hold : Marked
   pub worked_hold : Worked
   pub logs_answered : LogsAnswered
   pub joins_worked : JoinsWorked
   pub removes_worked : RemovesWorked
-  pub words_worked : WordsWorked
-  pub carries_worked : CarriesWorked
-  pub formats_alike : FormatsAlike
   pub stays_worked : StaysWorked
   pub list_examples : ListExamples
   pub session_printed : sheet_text session_bytes ≡ session_text

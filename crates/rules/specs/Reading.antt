@@ -2,8 +2,8 @@
 use Rattle.std.specs.Prelude.{ℕ, ◌+◌, ◌-◌, Bool, true, false, cond, not, ◌&&◌, ◌||◌, List, [], ◌∷◌, map, length, get_or, take, drop, leb, ltb, eqb}
 use Rattle.std.proofs.Math.Option.{Option, none, some}
 use Rattle.journeys.specs.Journey.{Contact}
-use Rattle.words.specs.Layout.{is_of}
-use Rattle.words.specs.Formats.{Format, new_format, opening_layout, contact_layout, contact_of, end_layout, logged_of}
+use Rattle.words.specs.Layout.{get, is_of}
+use Rattle.words.specs.Words.{opening_layout, contact_layout, contact_of, end_layout, logged_field}
 use Rattle.rules.specs.declared.Refusal.{Refusal}
 use Rattle.rules.specs.declared.Refusal.TheVariants.{NotALog, WrongLength, NotAContact, IllegalContact, WrongEnd}
 use Rattle.rules.specs.declared.ReadAnswer.{ReadAnswer}
@@ -11,36 +11,27 @@ use Rattle.rules.specs.declared.ReadAnswer.TheVariants.{Read}
 use Rattle.rules.specs.declared.LogWord.{LogWord}
 use Rattle.rules.specs.declared.LogWord.TheVariants.{Legal, NoContact, NotLegal}
 use Rattle.rules.specs.Answers.{ensure, unless, read_answer_of}
-use Rattle.rules.specs.Layout.{table_length, animals, ticks, ticks_in, carry}
+use Rattle.rules.specs.Layout.{table_length, animals, ticks, carry}
 use Rattle.rules.specs.Adding.{same_contact}
 use Rattle.rules.specs.CallLists.{table_with}
 
 -- ---- the words of a log; `animals`, `ticks` and `carry` are those of its first word
 
 -- An opening word stands first, and another word behind it.
-abbrev pub is_log_in : Format → List ℕ → Bool
-is_log_in F L = leb 2 (length L) && is_of (opening_layout F) (get_or L 0 0)
-
 abbrev pub is_log : List ℕ → Bool
-is_log = is_log_in new_format
+is_log L = leb 2 (length L) && is_of opening_layout (get_or L 0 0)
 
 -- The words between the first and the last.
 unfoldable pub between : List ℕ → List ℕ
 between L = take (length L - 2) (drop 1 L)
 
 -- Their contacts, in their order.
-unfoldable pub logged_contacts_in : Format → List ℕ → List Contact
-logged_contacts_in F L = map (contact_of F) (between L)
-
-abbrev pub logged_contacts : List ℕ → List Contact
-logged_contacts = logged_contacts_in new_format
+unfoldable pub logged_contacts : List ℕ → List Contact
+logged_contacts L = map contact_of (between L)
 
 -- An end word with the true count.
-unfoldable pub is_true_end_in : Format → ℕ → ℕ → Bool
-is_true_end_in F count w = is_of (end_layout F) w && eqb (logged_of F w) count
-
-abbrev pub is_true_end : ℕ → ℕ → Bool
-is_true_end = is_true_end_in new_format
+unfoldable pub is_true_end : ℕ → ℕ → Bool
+is_true_end count w = is_of end_layout w && eqb (get logged_field w) count
 
 -- ---- the checks
 
@@ -49,11 +40,8 @@ unfoldable pub is_legal : ℕ → ℕ → Contact → Bool
 is_legal n τ k = ltb k.from n && ltb k.to n && not (eqb k.from k.to) && leb k.tick τ
 
 -- What a word between the first and the last is.
-unfoldable pub log_word_in : Format → ℕ → ℕ → ℕ → LogWord
-log_word_in F n τ w = cond (is_of (contact_layout F) w) (cond (is_legal n τ (contact_of F w)) Legal NotLegal) NoContact
-
-abbrev pub log_word : ℕ → ℕ → ℕ → LogWord
-log_word = log_word_in new_format
+unfoldable pub log_word : ℕ → ℕ → ℕ → LogWord
+log_word n τ w = cond (is_of contact_layout w) (cond (is_legal n τ (contact_of w)) Legal NotLegal) NoContact
 
 -- 12 when it is no contact word, 13 when its contact is not legal.
 abbrev pub ensure_legal : LogWord → Option Refusal → Option Refusal
@@ -62,24 +50,18 @@ ensure_legal NoContact o = some NotAContact
 ensure_legal NotLegal o = some IllegalContact
 
 -- Each word in turn.
-unfoldable pub ensure_words_in : Format → ℕ → ℕ → List ℕ → Option Refusal → Option Refusal
-ensure_words_in F n τ [] o = o
-ensure_words_in F n τ (w ∷ ws) o = ensure_legal (log_word_in F n τ w) (ensure_words_in F n τ ws o)
-
-abbrev pub ensure_words : ℕ → ℕ → List ℕ → Option Refusal → Option Refusal
-ensure_words = ensure_words_in new_format
+unfoldable pub ensure_words : ℕ → ℕ → List ℕ → Option Refusal → Option Refusal
+ensure_words n τ [] o = o
+ensure_words n τ (w ∷ ws) o = ensure_legal (log_word n τ w) (ensure_words n τ ws o)
 
 -- 11; then 4 when the table's length is not the formula's; then each word between first and last; then 14.
-unfoldable pub read_refusal_in : Format → List ℕ → List ℕ → Option Refusal
-read_refusal_in F L T =
-    ensure (is_log_in F L) NotALog
-    (ensure (eqb (length T) (table_length (animals L) (ticks_in F L))) WrongLength
-    (ensure_words_in F (animals L) (ticks_in F L) (between L)
-    (ensure (is_true_end_in F (length (between L)) (get_or L (length L - 1) 0)) WrongEnd
+unfoldable pub read_refusal : List ℕ → List ℕ → Option Refusal
+read_refusal L T =
+    ensure (is_log L) NotALog
+    (ensure (eqb (length T) (table_length (animals L) (ticks L))) WrongLength
+    (ensure_words (animals L) (ticks L) (between L)
+    (ensure (is_true_end (length (between L)) (get_or L (length L - 1) 0)) WrongEnd
     none)))
-
-abbrev pub read_refusal : List ℕ → List ℕ → Option Refusal
-read_refusal = read_refusal_in new_format
 
 -- ---- the reply and the words left
 
@@ -93,11 +75,8 @@ unfoldable pub different : List Contact → ℕ
 different [] = 0
 different (k ∷ l) = cond (comes_in k l) 0 1 + different l
 
-unfoldable pub read_answer_in : Format → List ℕ → List ℕ → ReadAnswer
-read_answer_in F L T = read_answer_of (read_refusal_in F L T) (Read (different (logged_contacts_in F L)))
-
-abbrev pub read_answer : List ℕ → List ℕ → ReadAnswer
-read_answer = read_answer_in new_format
+unfoldable pub read_answer : List ℕ → List ℕ → ReadAnswer
+read_answer L T = read_answer_of (read_refusal L T) (Read (different (logged_contacts L)))
 
 -- The table's words afterwards: those of the log's opening with its contacts added, once nothing in the log is refused.
 unfoldable pub read_leaves : List ℕ → List ℕ → List ℕ

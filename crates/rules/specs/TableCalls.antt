@@ -59,8 +59,6 @@ module _ (n τ δ : ℕ) where
 -- From an accepted opening, after any list of such calls, refused ones included, the table is fresh over the contacts that they leave.
 pub record TableCalls : Type 1 where
   pub fresh_after : (n τ δ : ℕ) (words : List ℕ) (A : List TableCall) → open_answer n τ δ words ≡ Opened → Fresh n τ δ (ContactsLeft n τ δ (λ k. ⊥) A) (run_calls (open_leaves n τ δ words) A)
-  -- The same holds from any table that is fresh over P, such as one read from a log or carried over from the old format.
-  pub fresh_on : (n τ δ : ℕ) (P : Contacts) (T : List ℕ) (A : List TableCall) → Fresh n τ δ P T → Fresh n τ δ (ContactsLeft n τ δ P A) (run_calls T A)
   -- So two such lists leave equal tables exactly when they leave the same contacts.
   pub equal_tables : (n τ δ : ℕ) (wordsA wordsB : List ℕ) (A B : List TableCall) → open_answer n τ δ wordsA ≡ Opened → open_answer n τ δ wordsB ≡ Opened
       → (run_calls (open_leaves n τ δ wordsA) A ≡ run_calls (open_leaves n τ δ wordsB) B) ↔ Same (ContactsLeft n τ δ (λ k. ⊥) A) (ContactsLeft n τ δ (λ k. ⊥) B)

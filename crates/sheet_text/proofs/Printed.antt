@@ -1,6 +1,7 @@
 -- What is printed for the words of a log.
-use mathlib.Core.Path.{◌≡◌, refl, sym, ap, ◌∙◌, subst}
+use mathlib.Core.Path.{◌≡◌, refl, sym, ap, ap₂, ◌∙◌, subst}
 use mathlib.Core.Bool.{Bool, true, false, not, cond, ◌&&◌}
+use mathlib.Core.Option.{Option, none, some}
 use mathlib.Core.List.{List, [], ◌∷◌}
 use Prim.Native.Nat.{ℕ, zero, suc, ◌+◌, ◌*◌, ◌/◌, ◌%◌, ◌≤◌, ◌<◌}
 use native.Mathlib.Nat.{mul-le-mul}
@@ -16,11 +17,11 @@ use Rattle.rules.specs.declared.Refusal.{Refusal}
 use Rattle.rules.specs.declared.Refusal.TheVariants.{NotALog}
 use Rattle.rules.specs.declared.ReadAnswer.{ReadAnswer}
 use Rattle.rules.specs.declared.ReadAnswer.TheVariants.{Read, Refused}
-use Rattle.rules.specs.Answers.{number_of}
+use Rattle.rules.specs.Answers.{number_of, read_answer_of}
 use Rattle.rules.specs.Layout.{table_length, animals, ticks}
 use Rattle.rules.specs.Checks.{ValidTable}
 use Rattle.rules.specs.Logs.{held_contacts}
-use Rattle.rules.specs.Reading.{is_log, read_refusal_in, read_answer, read_answer_in, read_leaves}
+use Rattle.rules.specs.Reading.{is_log, read_refusal, read_answer, read_leaves}
 use Rattle.rules.specs.Sheet.{most_bytes, most_animals, most_ticks, most_text, most_table_words, words_of, is_beyond, read_text, log_text, table_text, refused_text, too_large, not_whole_words, sheet_text}
 use Rattle.rules.proofs.Folds.{and_left, and_right}
 use Rattle.rules.proofs.Demand1.{demand1}
@@ -33,7 +34,7 @@ use Rattle.sheet_text.proofs.Words.{words-length}
 
 -- What is no log is refused as that, whatever the table.
 no-log : (L T : List ℕ) → is_log L ≡ false → read_answer L T ≡ Refused NotALog
-unfolding read_answer_in read_refusal_in
+unfolding read_answer read_refusal
 no-log L T q = rw q refl
 
 -- ---- the limits

@@ -27,7 +27,7 @@ use Rattle.rules.specs.Checks.{ValidTable, WellFormedBelow}
 use Rattle.rules.specs.Opening.{open_refusal}
 use Rattle.rules.specs.Logs.{held_contacts}
 use Rattle.rules.specs.CallLists.{table_with}
-use Rattle.rules.specs.Reading.{is_log, logged_contacts, different, read_refusal, read_refusal_in, read_answer_in, read_leaves}
+use Rattle.rules.specs.Reading.{is_log, logged_contacts, different, read_refusal, read_answer, read_leaves}
 use Rattle.rules.specs.Sheet.{most_bytes, most_animals, most_ticks, most_text, words_of, decimal, interval_text, intervals_text, cell_text, first_line, table_text, refused_text, too_large, not_whole_words, is_beyond, read_text, log_text, sheet_text}
 use Rattle.rules.proofs.Folds.{and_left, and_right, flat-few}
 use Rattle.rules.proofs.Judged.{ensure-iff, open_iff}
@@ -91,7 +91,7 @@ module _ (τ δ : ℕ) (hτ : τ ≤ most_ticks) (hδ : δ ≤ max_carry) where
 -- ---- tables
 
 -- The first line has at most 18 bytes.
-first_short : (n τ δ held : ℕ) → n < 10 → τ < 100 → δ < 1000 → held < 1000000000 → length (first_line n τ δ held) ≤ 19
+first_short : (n τ δ held : ℕ) → n < 10 → τ < 100 → δ < 1000 → held < 100000000 → length (first_line n τ δ held) ≤ 18
 unfolding first_line
 first_short n τ δ held a b c d =
     omega (
@@ -99,7 +99,7 @@ first_short n τ δ held a b c d =
       digits 0 n a,
       digits 1 τ b,
       digits 2 δ c,
-      digits 8 held d,
+      digits 7 held d,
       length-append (decimal n) (32 ∷ (decimal τ ++ (32 ∷ (decimal δ ++ (32 ∷ (decimal held ++ (10 ∷ []))))))),
       length-append (decimal τ) (32 ∷ (decimal δ ++ (32 ∷ (decimal held ++ (10 ∷ []))))),
       length-append (decimal δ) (32 ∷ (decimal held ++ (10 ∷ []))),
@@ -108,7 +108,7 @@ first_short n τ δ held a b c d =
 
 -- The bytes of the longest text: a first line, and a line for each cell.
 abbrev most_shown : ℕ
-most_shown = 19 + most_animals * (most_animals * most_line)
+most_shown = 18 + most_animals * (most_animals * most_line)
 
 -- The lines of the cells, and the text with the first line.
 module _ (n τ δ : ℕ) (C : Cells) (hn : n ≤ most_animals) (hτ : τ ≤ most_ticks) (hδ : δ ≤ max_carry) (g : WellFormedBelow n τ δ C) where
@@ -118,7 +118,7 @@ module _ (n τ δ : ℕ) (C : Cells) (hn : n ≤ most_animals) (hτ : τ ≤ mos
       (λ u h. flat-few (λ v. cell_text u v (C u v)) most_line n (λ v k. cell-short τ δ hτ hδ u v (C u v) (omega arith) (omega arith) (g.cells u v h k))) in
       omega (arith, a, mul-le-mul hn (mul-le-mul hn (le_refl most_line)))
 
-  text_short : (held : ℕ) → held < 1000000000 → length (first_line n τ δ held ++ flat (λ u. flat (λ v. cell_text u v (C u v)) n) n) ≤ most_shown
+  text_short : (held : ℕ) → held < 100000000 → length (first_line n τ δ held ++ flat (λ u. flat (λ v. cell_text u v (C u v)) n) n) ≤ most_shown
   text_short held h =
       omega (
         arith,
@@ -131,7 +131,7 @@ module _ (n τ δ : ℕ) (C : Cells) (hn : n ≤ most_animals) (hτ : τ ≤ mos
 pub table-short : (T : List ℕ) → ValidTable T → animals T ≤ most_animals → ticks T ≤ most_ticks → length (table_text T) ≤ most_shown
 unfolding table_text
 table-short T p a b =
-    let h : length (held_contacts T) < 1000000000 = omega (arith, held-few T p) in
+    let h : length (held_contacts T) < 100000000 = omega (arith, held-few T p) in
     text_short (animals T) (ticks T) (carry T) (cells_of T) a b (table-sizes T).δ-high (passes-good T p) (length (held_contacts T)) h
 
 -- ---- sheets
@@ -171,7 +171,7 @@ second-fails a b h e = sym (ap (λ (x : Bool). x && b) h) ∙ e
 module _ (L T : List ℕ) (r : read_refusal L T ≡ none) where
   -- A log that is read and is not beyond the limits lies within them.
   within-limits : is_beyond L ≡ false → (animals L ≤ most_animals) × (ticks L ≤ most_ticks)
-  unfolding is_beyond read_refusal_in
+  unfolding is_beyond read_refusal
   within-limits e =
       let x = leb (animals L) most_animals in
       let y = leb (ticks L) most_ticks in
@@ -181,7 +181,7 @@ module _ (L T : List ℕ) (r : read_refusal L T ≡ none) where
 
   -- Its table can be opened.
   read-opens : open_refusal (animals L) (ticks L) (carry L) T ≡ none
-  unfolding read_refusal_in
+  unfolding read_refusal
   read-opens =
       (open_iff (animals L) (ticks L) (carry L) T).1 (
         table-sizes L,
@@ -197,7 +197,7 @@ module _ (L T : List ℕ) (r : read_refusal L T ≡ none) where
 
 -- The text of a log that is not beyond the limits.
 pub log-short : (L : List ℕ) → is_beyond L ≡ false → length (log_text L) ≤ most_shown
-unfolding log_text read_answer_in read_leaves
+unfolding log_text read_answer read_leaves
 log-short L e = go (read_refusal L T) refl
   where
     T : List ℕ

@@ -7,7 +7,7 @@ use lib.ListN.{length, get_or, take, drop}
 use Rattle.journeys.specs.Cell.{Cell}
 use Rattle.words.specs.Words.{interval_of}
 use Rattle.rules.specs.Folds.{flat}
-use Rattle.rules.specs.Layout.{animals, ticks, carry, cell_of, cells_of, cells_of_in}
+use Rattle.rules.specs.Layout.{animals, ticks, carry, cell_of, cells_of}
 use Rattle.rules.specs.Logs.{held_contacts}
 use Rattle.rules.specs.Sheet.{decimal, space, newline, interval_text, intervals_text, cell_text, first_line, table_text}
 use Rattle.rules.proofs.Folds.{flat-same}
@@ -104,7 +104,7 @@ module _ {n s : ℕ} {body l out : List ℕ} {c : CellPlace} {at : ℕ} (w : Wri
 
 -- The text of the cells in the words after the opening word is that of the table's cells.
 cells-text : (T : List ℕ) → grid_text (animals T) (ticks T + 1) (drop 1 T) ≡ flat (λ u. flat (λ v. cell_text u v (cells_of T u v)) (animals T)) (animals T)
-unfolding grid_text text_in cells_of_in
+unfolding grid_text text_in cells_of
 cells-text T = let n = animals T in flat-same _ _ n (λ u h. flat-same _ _ n (λ v k. ap (λ (l : List ℕ). cell_text u v (cell_of l)) (cell_in_lem n (ticks T) T u v)))
 
 -- The first line and the text of the cells are the text of the table, by its numbers as they were read.

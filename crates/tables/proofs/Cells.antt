@@ -11,8 +11,8 @@ use lib.Dec.{eqb}
 use lib.ListN.{length, get_or, take, drop, set, replicate, length-set, length-replicate, get_or-replicate}
 use lib.Seq.{take_all, take-length, take-suc, take-suc-set, drop-drop, drop-length}
 use Rattle.words.specs.Words.{opening_word, count_word, unused_word}
-use Rattle.rules.specs.Layout.{table_length, cell_words, cell_words_in, table_words, table_words_in, animals, ticks, carry, cell_at}
-use Rattle.rules.specs.Checks.{is_open, cell_well_formed, well_formed, well_formed_in}
+use Rattle.rules.specs.Layout.{table_length, cell_words, table_words, animals, ticks, carry, cell_at}
+use Rattle.rules.specs.Checks.{is_open, cell_well_formed, well_formed}
 use Rattle.rules.specs.Opening.{no_intervals}
 use Rattle.rules.proofs.Folds.{flat-same}
 use Rattle.rules.proofs.Sound.{opens-length}
@@ -48,7 +48,7 @@ most-bound τ u v = go (eqb u v)
 
 -- The test of every cell after the opening word is the check of the table.
 pub body-formed : (T : List ℕ) → all_cells_well_formed (ticks T) (carry T) (animals T) (drop 1 T) ≡ well_formed T
-unfolding all_cells_well_formed cells_from_at cells_from_well_formed cell_of_well_formed most_rows well_formed_in cell_at
+unfolding all_cells_well_formed cells_from_at cells_from_well_formed cell_of_well_formed most_rows well_formed cell_at
 body-formed T = all_same _ _ n (λ u h. all_same _ _ n (λ v k. ap (cell_well_formed (ticks T) (carry T) (cond (eqb u v) 0 (ticks T))) (cell u v k)))
   where
     n : ℕ
@@ -75,7 +75,7 @@ module _ (T : List ℕ) (n τ δ : ℕ) (a : n ≡ animals T) (b : τ ≡ ticks 
 
 -- An empty cell is a count word and τ unused words.
 empty-words : (τ : ℕ) → cell_words τ [] ≡ count_word 0 ∷ replicate τ unused_word
-unfolding cell_words_in
+unfolding cell_words
 empty-words τ = let e : τ - 0 ≡ τ = omega arith in rw e refl
 
 -- An empty cell has τ + 1 words.
@@ -128,7 +128,7 @@ part-emptied τ k l h =
 
 -- An opening word and n·n empty cells are the words of a table without intervals.
 pub opened-words : (n τ δ : ℕ) (l : List ℕ) → length l ≡ n * n * (τ + 1) → opening_word n τ δ ∷ parts emptied (τ + 1) (n * n) l ≡ table_words n τ δ no_intervals
-unfolding table_words_in
+unfolding table_words
 opened-words n τ δ l h =
     ap (λ (b : List ℕ). opening_word n τ δ ∷ b)
     (parts-flat emptied (τ + 1) l (n * n) h (λ k o. ap length (empty k o) ∙ empty-length τ) ∙ flat-same _ _ (n * n) empty ∙ flat-square (λ k. cell_words τ []) n n)

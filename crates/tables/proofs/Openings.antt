@@ -2,18 +2,17 @@
 use mathlib.Core.Path.{◌≡◌, refl}
 use mathlib.Core.Bool.{true, false}
 use mathlib.Core.List.{List, [], ◌∷◌}
-use Prim.Native.Nat.{ℕ, ◌+◌, ◌*◌, ◌≤◌}
+use Prim.Native.Nat.{ℕ, ◌+◌, ◌*◌, ◌≤◌, ◌<◌}
 use native.Mathlib.Nat.{mul-le-mul}
 use native.Mathlib.Omega.{arith}
 use lib.Dec.{eqb}
 use lib.ListN.{length, get_or}
-use borrow.Author.Tests.{ne_eqb}
-use Rattle.words.specs.Layout.{pack, unpack, is_of}
-use Rattle.words.specs.Formats.{Format, opening_layout}
+use Rattle.words.specs.Layout.{is_of}
+use Rattle.words.specs.Words.{opening_layout}
 use Rattle.rules.specs.declared.Refusal.TheVariants.{AnimalsBeyondLimit, TicksBeyondLimit, CarryBeyondLimit}
 use Rattle.rules.specs.Folds.{within}
-use Rattle.rules.specs.Layout.{table_length, animals, ticks_in}
-use Rattle.rules.specs.Checks.{is_open_in}
+use Rattle.rules.specs.Layout.{table_length, animals, ticks}
+use Rattle.rules.specs.Checks.{is_open}
 use Rattle.rules.specs.Limits.{max_animals, max_ticks, max_carry, max_cell_words, max_cells}
 use Rattle.tables.specs.declared.Made.TheVariants.{Within, Beyond}
 use Rattle.tables.specs.Openings.{made}
@@ -53,22 +52,22 @@ length-bound n τ h k =
 
 -- ---- an open table
 
-module _ (F : Format) (T : List ℕ) where
+module _ (T : List ℕ) where
   -- No words are no open table.
-  pub open_none : length T ≡ 0 → false ≡ is_open_in F T
-  unfolding is_open_in is_of
+  pub open_none : length T ≡ 0 → false ≡ is_open T
+  unfolding is_open is_of
   open_none e = go T e
     where
-      go : (l : List ℕ) → length l ≡ 0 → false ≡ is_open_in F l
-      go [] h = rw (ne_eqb 0 (pack (opening_layout F) (unpack (opening_layout F) 0)) (λ z. omega arith)) refl
+      go : (l : List ℕ) → length l ≡ 0 → false ≡ is_open l
+      go [] h = refl
       go (w ∷ l) h = absurd (omega arith)
 
   -- Another word first is no open table.
-  pub open_kind : is_of (opening_layout F) (get_or T 0 0) ≡ false → false ≡ is_open_in F T
-  unfolding is_open_in
+  pub open_kind : is_of opening_layout (get_or T 0 0) ≡ false → false ≡ is_open T
+  unfolding is_open
   open_kind e = rw e refl
 
   -- After an opening word the length decides.
-  pub open_length : is_of (opening_layout F) (get_or T 0 0) ≡ true → (k : ℕ) → k ≡ table_length (animals T) (ticks_in F T) → eqb (length T) k ≡ is_open_in F T
-  unfolding is_open_in
+  pub open_length : is_of opening_layout (get_or T 0 0) ≡ true → (k : ℕ) → k ≡ table_length (animals T) (ticks T) → eqb (length T) k ≡ is_open T
+  unfolding is_open
   open_length e k h = rw (e, h) refl

@@ -1,12 +1,12 @@
 -- The cells of a table that passes its checks are as the functions on a cell ask.
 use mathlib.Core.Path.{◌≡◌, sym, ap, ◌∙◌, subst}
 use mathlib.Core.List.{List, Memᴰ}
-use Prim.Native.Nat.{ℕ, ◌+◌, ◌-◌, ◌<◌}
+use Prim.Native.Nat.{ℕ, ◌+◌, ◌-◌, ◌≤◌, ◌<◌}
 use native.Mathlib.Omega.{arith}
 use lib.ListN.{length, take, drop, length-drop}
 use Rattle.journeys.specs.Journey.{Interval}
 use Rattle.journeys.specs.Cell.{Cell, Limits}
-use Rattle.rules.specs.Layout.{cell_words, animals, ticks, carry, cell_at, cell_of, cells_of, cells_of_in}
+use Rattle.rules.specs.Layout.{cell_words, animals, ticks, carry, cell_at, cell_of, cells_of}
 use Rattle.rules.specs.Checks.{ValidTable}
 use Rattle.rules.proofs.Sound.{table-sizes, opens-length, part_length, part-words, passes-good}
 use Rattle.grid.specs.Cells.{cell_in, Grid}
@@ -15,7 +15,7 @@ use Rattle.cells.specs.Stored.{Stored}
 
 -- What is read off the words lent of cell (u, v) is read off the cell.
 pub cell-read : {A : Type 0} (f : Cell → A) (T : List ℕ) (u v : ℕ) {r : A} (lent : List ℕ) → lent ≡ cell_at (animals T) (ticks T) T u v → r ≡ f (cell_of lent) → r ≡ f (cells_of T u v)
-unfolding cells_of_in
+unfolding cells_of
 cell-read f T u v lent e g = g ∙ ap (λ (l : List ℕ). f (cell_of l)) e
 
 module _ (T : List ℕ) (p : ValidTable T) where
@@ -31,7 +31,7 @@ module _ (T : List ℕ) (p : ValidTable T) where
 
   -- The words of cell (x, y).
   pub cell-stored : (x y : ℕ) → x < n → y < n → Stored (cell_at n τ T x y)
-  unfolding cells_of_in
+  unfolding cells_of
   cell-stored x y h k =
       let e : length (cell_at n τ T x y) ≡ τ + 1 = part_length T p x y h k in
       let z = table-sizes T in

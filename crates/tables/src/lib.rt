@@ -41,7 +41,7 @@ impl Opening {
     // The most animals, the most ticks and the longest carry time; each number is at least 1.
     pub const MAX_ANIMALS: u32 = 256;
 
-    pub const MAX_TICKS: u32 = 4096;
+    pub const MAX_TICKS: u32 = 1024;
 
     pub const MAX_CARRY: u32 = 256;
 
@@ -107,7 +107,7 @@ pub fn is_open(table: &[u32]) -> bool
 }
 
 // The most rows in use that cell (u, v) may have: none where u is v.
-pub fn most_rows(u: usize, v: usize, ticks: u32) -> u32
+fn most_rows(u: usize, v: usize, ticks: u32) -> u32
     ensures { result ≡ most_rows ticks u v }
 {
     if u == v {

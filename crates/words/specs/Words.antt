@@ -1,9 +1,7 @@
--- The six words of document 01 ("Words of the table") in the format of document 02, Eight: a layout for each, and the word of given values.
-use Rattle.std.specs.Prelude.{[], ℕ, ◌+◌}
-use Rattle.journeys.specs.Journey.{Contact, Interval}
-use Rattle.words.specs.Layout.{Field, Layout, get, pack}
-use Rattle.words.specs.Formats.{new_format, left_field, right_field, tick_of}
-use Rattle.words.specs.Formats as of_Format
+-- The six words of document 01 ("Words of the table"): a layout for each, and the word of given values.
+use Rattle.std.specs.Prelude.{[], ◌∷◌, ℕ, ◌+◌, ◌-◌}
+use Rattle.journeys.specs.Journey.{Contact, contact, Interval, interval}
+use Rattle.words.specs.Layout.{Field, bits, Layout, get, pack}
 
 -- ---- unused: kind 0, no field
 
@@ -13,98 +11,91 @@ unused_layout = record { kind = 0; fields = [] }
 abbrev pub unused_word : ℕ
 unused_word = pack unused_layout []
 
--- ---- interval
+-- ---- interval: kind 1, departure bits 21–11, arrival bits 10–0
 
 abbrev pub departure_field : Field
-departure_field = new_format.departure
+departure_field = bits 21 11
 
 abbrev pub arrival_field : Field
-arrival_field = new_format.arrival
+arrival_field = bits 10 0
 
 abbrev pub interval_layout : Layout
-interval_layout = of_Format.interval_layout new_format
+interval_layout = record { kind = 1; fields = departure_field ∷ arrival_field ∷ [] }
 
 abbrev pub interval_word : Interval → ℕ
-interval_word = of_Format.interval_word new_format
+interval_word i = pack interval_layout (i.departure ∷ i.arrival ∷ [])
 
 -- The interval that the fields say.
 abbrev pub interval_of : ℕ → Interval
-interval_of = of_Format.interval_of new_format
+interval_of w = interval (get departure_field w) (get arrival_field w)
 
--- ---- contact
+-- ---- contact (logs, chains): kind 1, u bits 25–18, v bits 17–10, t−1 bits 9–0
 
 abbrev pub from_field : Field
-from_field = left_field
+from_field = bits 25 18
 
 abbrev pub to_field : Field
-to_field = right_field
+to_field = bits 17 10
 
--- The largest tick of a contact or an opening word.
-abbrev pub highest_tick : ℕ
-highest_tick = of_Format.highest_tick new_format
+abbrev pub tick_field : Field
+tick_field = bits 9 0
 
 abbrev pub contact_layout : Layout
-contact_layout = of_Format.contact_layout new_format
+contact_layout = record { kind = 1; fields = from_field ∷ to_field ∷ tick_field ∷ [] }
 
 abbrev pub contact_word : Contact → ℕ
-contact_word = of_Format.contact_word new_format
+contact_word k = pack contact_layout (k.from ∷ k.to ∷ (k.tick - 1) ∷ [])
 
 -- The contact that the fields say.
 abbrev pub contact_of : ℕ → Contact
-contact_of = of_Format.contact_of new_format
+contact_of w = contact (get from_field w) (get to_field w) (get tick_field w + 1)
 
--- ---- opening
+-- ---- opening: kind 2, n−1 bits 25–18, δ−1 bits 17–10, τ−1 bits 9–0
 
 abbrev pub animals_field : Field
-animals_field = left_field
+animals_field = bits 25 18
 
 abbrev pub carry_field : Field
-carry_field = right_field
+carry_field = bits 17 10
+
+abbrev pub ticks_field : Field
+ticks_field = bits 9 0
 
 abbrev pub opening_layout : Layout
-opening_layout = of_Format.opening_layout new_format
+opening_layout = record { kind = 2; fields = animals_field ∷ carry_field ∷ ticks_field ∷ [] }
 
+-- The opening word of n animals, τ ticks and carry time δ, in this order; the word packs n, δ, τ.
 abbrev pub opening_word : ℕ → ℕ → ℕ → ℕ
-opening_word = of_Format.opening_word new_format
+opening_word n τ δ = pack opening_layout ((n - 1) ∷ (δ - 1) ∷ (τ - 1) ∷ [])
 
 -- The number of animals, the number of ticks and the carry time that the fields say.
 abbrev pub animals_of : ℕ → ℕ
 animals_of w = get animals_field w + 1
 
 abbrev pub ticks_of : ℕ → ℕ
-ticks_of = tick_of new_format
+ticks_of w = get ticks_field w + 1
 
 abbrev pub carry_of : ℕ → ℕ
 carry_of w = get carry_field w + 1
 
--- ---- count
+-- ---- count: kind 3, rows in use bits 10–0
 
 abbrev pub rows_field : Field
-rows_field = new_format.rows
+rows_field = bits 10 0
 
 abbrev pub count_layout : Layout
-count_layout = of_Format.count_layout new_format
+count_layout = record { kind = 3; fields = rows_field ∷ [] }
 
 abbrev pub count_word : ℕ → ℕ
-count_word = of_Format.count_word new_format
+count_word k = pack count_layout (k ∷ [])
 
-abbrev pub rows_of : ℕ → ℕ
-rows_of = of_Format.rows_of new_format
-
--- ---- end of log
+-- ---- end of log: kind 3, contacts in the log bits 25–0
 
 abbrev pub logged_field : Field
-logged_field = new_format.logged
+logged_field = bits 25 0
 
 abbrev pub end_layout : Layout
-end_layout = of_Format.end_layout new_format
+end_layout = record { kind = 3; fields = logged_field ∷ [] }
 
 abbrev pub end_word : ℕ → ℕ
-end_word = of_Format.end_word new_format
-
-abbrev pub logged_of : ℕ → ℕ
-logged_of = of_Format.logged_of new_format
-
--- The largest number of contacts of an end word.
-abbrev pub most_logged : ℕ
-most_logged = of_Format.most_logged new_format
+end_word k = pack end_layout (k ∷ [])

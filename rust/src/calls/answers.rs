@@ -1,12 +1,6 @@
 //! One answer type for each kind of answer, and how the engine's replies say it.
 
-use crate::words::Field;
 use crate::Interval;
-
-/// The departure of an interval that is an answer's number.
-const DEPARTURE: Field = Field::new(31, 16);
-/// The arrival of an interval that is an answer's number.
-const ARRIVAL: Field = Field::new(15, 0);
 
 /// The answer of [`open`](super::open).
 #[must_use]
@@ -50,14 +44,13 @@ pub enum StaysAdded {
     Refused(u32),
 }
 
-/// The answer of a call that rewrites a whole table and has nothing more to tell: [`remove`](super::remove) and
-/// [`carry_over`](super::carry_over).
+/// The answer of a call that rewrites a whole table and has nothing more to tell: [`remove`](super::remove).
 #[must_use]
 #[derive(Clone, Copy, Debug, PartialEq, Eq)]
 pub enum Done {
     /// It is done.
     Done,
-    /// The refusal's number; both tables keep their words.
+    /// The refusal's number; the table keeps its words, and so do those lent for work.
     Refused(u32),
 }
 
@@ -256,12 +249,13 @@ impl Chain {
 
 /// Which answer a reply is (its upper half), and the answer's number (its lower half).
 fn parts(reply: u64) -> (u32, u32) {
-    ((reply >> u32::BITS) as u32, reply as u32)
+    ((reply >> 32) as u32, reply as u32)
 }
 
-/// The interval of an answer's number. A departure is 1 or later, and an arrival is after its departure.
+/// The interval of an answer's number: the departure is its upper half, the arrival its lower half. A departure is 1 or
+/// later, and an arrival is after its departure.
 fn interval(number: u32) -> Option<Interval> {
-    let (departure, arrival) = (DEPARTURE.get(number), ARRIVAL.get(number));
+    let (departure, arrival) = (number >> 16, number & 0xFFFF);
     (1 <= departure && departure < arrival).then_some(Interval { departure, arrival })
 }
 
@@ -273,12 +267,8 @@ fn no_answer(reply: u64) -> ! {
 #[cfg(test)]
 mod tests {
     use super::{Done, Found};
-    use crate::words::{LONGEST_CARRY, MOST_TICKS};
     use crate::Interval;
     use std::panic::catch_unwind;
-
-    /// The last tick at which a contact can arrive.
-    const LAST: u32 = MOST_TICKS + LONGEST_CARRY;
 
     /// The reply whose upper half says which answer, and whose lower half has these upper and lower halves.
     fn reply(which: u64, upper: u64, lower: u64) -> u64 {
@@ -287,13 +277,7 @@ mod tests {
 
     #[test]
     fn both_ends_of_an_interval_are_read_from_a_reply() {
-        for (departure, arrival) in [
-            (1, 2),
-            (1, LAST),
-            (2, 5),
-            (MOST_TICKS - 1, LAST),
-            (MOST_TICKS, LAST),
-        ] {
+        for (departure, arrival) in [(1, 2), (1, 1280), (2, 5), (1023, 1280), (1024, 1280)] {
             let found = Found::of(reply(1, departure.into(), arrival.into()));
             assert_eq!(found, Found::At(Interval { departure, arrival }));
         }
@@ -311,7 +295,7 @@ mod tests {
             (1, 0, 5),
             (1, 5, 0),
             (1, 5, 5),
-            (1, LAST.into(), MOST_TICKS.into()),
+            (1, 1280, 1024),
             (2, 0, 1),
             (2, 1, 0),
             (2, 2, 5),

@@ -20,12 +20,6 @@ extern "C" {
         v: u32,
         t: u32,
     ) -> u64;
-    pub fn herd_carry_over(
-        old: *const u32,
-        old_words: usize,
-        new_table: *mut u32,
-        new_words: usize,
-    ) -> u64;
     pub fn herd_read_log(log: *const u32, words: usize, table: *mut u32, room: usize) -> u64;
     pub fn herd_write_log(table: *const u32, words: usize, buffer: *mut u32, room: usize) -> u64;
     pub fn herd_reach(

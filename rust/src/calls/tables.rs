@@ -1,7 +1,6 @@
-//! Opening a table, adding a contact, joining two tables, adding the contacts of stays, removing a contact, and carrying a
-//! table of the old format over.
+//! Opening a table, adding a contact, joining two tables, adding the contacts of stays, and removing a contact.
 
-use super::exports::{herd_add, herd_carry_over, herd_join, herd_open, herd_remove, herd_stays};
+use super::exports::{herd_add, herd_join, herd_open, herd_remove, herd_stays};
 use super::{Added, Done, Joined, Opened, StaysAdded};
 
 /// Opens the table for so many animals and ticks and the carry time: writes every word of it, each cell empty.
@@ -62,39 +61,4 @@ pub fn remove(table: &mut [u32], work: &mut [u32], u: u32, v: u32, t: u32) -> Do
     let (table, work) = (table.as_mut_ptr(), work.as_mut_ptr());
     // SAFETY: pointers and lengths are those of two lent slices, and the engine is proved to stay inside.
     Done::of(unsafe { herd_remove(table, words, work, work_words, u, v, t) })
-}
-
-/// Carries a table of the old format over into a new one of the same length.
-///
-/// The new table then has the opening word of the old one and, cell for cell, its intervals and no others. What the new one
-/// held before does not matter, and the old one is only read. The old one is judged by 5 and 6 in the old format; where the
-/// new one has not its length it is refused with 20.
-///
-/// An old table and a new one cannot be told apart by their words: a new one that is carried over may be taken for an old
-/// one, and then holds other intervals without a word. Carry each table over once, and when in doubt
-/// [read its log](super::read_log) again: a log of the old format is one of the new, with the same meaning.
-///
-/// ```
-/// use herd::calls::{self, Answer, Done, Found};
-/// use herd::Interval;
-///
-/// // One tick, carry time 1, and the contact from 0 to 1 at tick 1: the old format has the departure from bit 11 on.
-/// let old = [
-///     0x8004_0000, // the opening
-///     0xC000_0000, 0, 0xC000_0001, 0x4000_0802, // from 0
-///     0xC000_0000, 0, 0xC000_0000, 0, // from 1
-/// ];
-/// assert_eq!(calls::reach(&old, 0, 1, 1, 1), Answer::Refused(6));
-/// let mut new = [0; 9];
-/// assert_eq!(calls::carry_over(&old, &mut new), Done::Done);
-/// assert_eq!(new[4], 0x4000_2002);
-/// let interval = Interval { departure: 1, arrival: 2 };
-/// assert_eq!(calls::earliest(&new, 0, 1, 1), Found::At(interval));
-/// ```
-#[inline]
-pub fn carry_over(old: &[u32], new: &mut [u32]) -> Done {
-    let (old_words, new_words) = (old.len(), new.len());
-    let (old, new) = (old.as_ptr(), new.as_mut_ptr());
-    // SAFETY: pointers and lengths are those of two lent slices, and the engine is proved to stay inside.
-    Done::of(unsafe { herd_carry_over(old, old_words, new, new_words) })
 }

@@ -3,20 +3,20 @@
 use crate::check;
 use crate::contents::Contents;
 use crate::model::{self, Contacts, Journeys};
-use crate::words::{self, Interval, Opening, Window, LARGEST, OLD, SET_WORDS};
+use crate::words::{self, Interval, Opening, Window, SET_WORDS};
 use herd::calls::{Added, Answer, Chain, Done, Found, Joined, Opened};
 use herd::calls::{Reached, Read, StaysAdded, Written};
 
 /// Opening over these words.
 pub fn open(table: &[u32], animals: u32, ticks: u32, carry: u32) -> (Opened, Vec<u32>) {
     let refused = |number| (Opened::Refused(number), table.to_vec());
-    if !(1..=LARGEST.animals).contains(&animals) {
+    if !(1..=256).contains(&animals) {
         return refused(1);
     }
-    if !(1..=LARGEST.ticks).contains(&ticks) {
+    if !(1..=1024).contains(&ticks) {
         return refused(2);
     }
-    if !(1..=LARGEST.carry).contains(&carry) {
+    if !(1..=256).contains(&carry) {
         return refused(3);
     }
     let opening = Opening::new(animals, ticks, carry);
@@ -40,18 +40,6 @@ pub fn read_log(log: &[u32], table: &[u32]) -> (Read, Vec<u32>) {
             let answer = Read::Contacts(different.len() as u32);
             (answer, model::fresh_table(opening, &different))
         }
-    }
-}
-
-/// Carrying a table of the old format over into the table of these words: the answer, and the new table's words afterwards.
-pub fn carry_over(old: &[u32], new: &[u32]) -> (Done, Vec<u32>) {
-    let checked = check::open_table_in(OLD, old).and_then(|stored| {
-        check::same_length(old, new)?;
-        Ok(words::table(stored.opening(), stored.cells()))
-    });
-    match checked {
-        Err(number) => (Done::Refused(number), new.to_vec()),
-        Ok(carried) => (Done::Done, carried),
     }
 }
 

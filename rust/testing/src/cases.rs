@@ -2,8 +2,8 @@
 
 use crate::model;
 use crate::random::Random;
-use crate::words::{self, count_word, Cells, Contact, Interval, Opening, Stay};
-use crate::words::{Window, EDGE_TICKS, KIND, LARGEST, LAST_PEN, LEFT, NEW, RIGHT};
+use crate::words::{count_word, Cells, Contact, Interval, Opening, Stay};
+use crate::words::{Window, LAST_PEN};
 
 /// A small opening, with a carry time above the ticks now and then.
 pub fn opening(random: &mut Random) -> Opening {
@@ -36,27 +36,19 @@ pub fn longer_opening(random: &mut Random) -> Opening {
     let carries = [
         random.between(1, 2),
         random.between(1, 9),
-        random.between(40, LARGEST.carry),
+        random.between(40, 256),
     ];
     let carry = random.one_of(&carries);
     Opening::new(random.between(2, 12), random.between(10, 40), carry)
-}
-
-/// Openings with long calendars, of two or three animals: ticks at the edges of the two pieces of a tick, and the most.
-pub fn long_openings() -> impl Iterator<Item = (u32, u32, u32)> {
-    let carries = [1, LARGEST.carry, 2].into_iter().cycle();
-    let edges = EDGE_TICKS.into_iter().zip(carries);
-    let largest = [2, 3].map(|animals| (animals, LARGEST.ticks, LARGEST.carry));
-    edges.map(|(ticks, carry)| (2, ticks, carry)).chain(largest)
 }
 
 /// An opening that differs from this one in one of its numbers, by one.
 pub fn other_opening(random: &mut Random, opening: Opening) -> Opening {
     let mut other = opening;
     let (number, most) = match random.below(3) {
-        0 => (&mut other.animals, LARGEST.animals),
-        1 => (&mut other.ticks, LARGEST.ticks),
-        _ => (&mut other.carry, LARGEST.carry),
+        0 => (&mut other.animals, 256),
+        1 => (&mut other.ticks, 1024),
+        _ => (&mut other.carry, 256),
     };
     let more = *number == 1 || *number < most && random.once_in(2);
     *number = if more { *number + 1 } else { *number - 1 };
@@ -152,7 +144,7 @@ pub fn has_joined(opening: Opening, cells: &Cells) -> bool {
 
 /// The word with another kind.
 pub fn other_kind(random: &mut Random, word: u32) -> u32 {
-    word ^ KIND.put(random.between(1, 3))
+    word ^ random.between(1, 3) << 30
 }
 
 /// The cells of the fresh table over every legal contact: each contact alone is minimal.
@@ -403,16 +395,7 @@ pub fn illegal_stays(opening: Opening, stay: Stay) -> Vec<Stay> {
     for animal in [n, n + 1, animal | 1 << 8, animal | 1 << 31, u32::MAX] {
         illegal.push(Stay { animal, ..stay });
     }
-    let pens = LAST_PEN + 1;
-    for pen in [
-        pens,
-        pens + 1,
-        pen + pens,
-        255,
-        pen | 1 << 8,
-        pen | 1 << 31,
-        u32::MAX,
-    ] {
+    for pen in [64, 65, pen + 64, 255, pen | 1 << 8, pen | 1 << 31, u32::MAX] {
         illegal.push(Stay { pen, ..stay });
     }
     for first in [0, last + 1, ticks + 1, first | 1 << 16, u32::MAX] {
@@ -440,9 +423,9 @@ pub fn refused_5(random: &mut Random, table: &[u32]) -> Vec<u32> {
         0 => words.clear(),
         1 => words.truncate(1),
         2 => drop(words.pop()),
-        3 => words.push(random.one_of(&[0, count_word(0), u32::MAX])),
+        3 => words.push(random.one_of(&[0, 0xC000_0000, u32::MAX])),
         4 => words[0] = other_kind(random, words[0]),
-        _ => words[0] ^= 1 << random.between(NEW.upper.low, KIND.low - 1),
+        _ => words[0] |= 1 << random.between(26, 29),
     }
     words
 }
@@ -456,9 +439,9 @@ pub fn refused_6(random: &mut Random, opening: Opening, table: &[u32]) -> Vec<u3
     let row = start + random.between(1, opening.ticks) as usize;
     match random.below(5) {
         0 => words[start] = count_word(opening.ticks + 1),
-        1 => words[start] ^= 1 << random.one_of(&words::unnamed(&NEW.of_count())),
+        1 => words[start] ^= 1 << random.between(11, 29),
         2 => words[start] = other_kind(random, words[start]),
-        3 => words[row] |= 1 << random.one_of(&words::unnamed(&NEW.of_interval())),
+        3 => words[row] |= 1 << random.between(22, 29),
         _ => words[opening.cell_start(v, v)] = count_word(1),
     }
     words
@@ -473,11 +456,6 @@ pub fn damaged(random: &mut Random, words: &[u32]) -> Vec<u32> {
     damaged
 }
 
-/// Numbers that, added to a contact word, change one of its fields by one.
-pub fn field_steps() -> [u32; 5] {
-    [1, RIGHT.put(1), LEFT.put(1), NEW.upper.put(1), u32::MAX]
-}
-
 /// Changes, moves, leaves out or puts in one word.
 fn damage(random: &mut Random, words: &mut Vec<u32>) {
     if words.is_empty() {
@@ -485,16 +463,15 @@ fn damage(random: &mut Random, words: &mut Vec<u32>) {
     }
     let (place, other) = (random.below(words.len()), random.below(words.len()));
     let last = words.len() - 1;
-    let step = random.one_of(&field_steps());
-    let any_contact = words::as_contact(random.word());
-    let smallest = words::opening_word(Opening::new(1, 1, 1));
+    let step = random.one_of(&[1, 1 << 10, 1 << 18, u32::MAX]);
+    let any_contact = 0x4000_0000 | random.word() & 0x03FF_FFFF;
     match random.below(7) {
         0 => words[place] ^= 1 << random.between(0, 31),
         1 => words.swap(place, other),
         2 => drop(words.remove(place)),
         3 => words.insert(place, words[other]),
         4 => words[place] = words[place].wrapping_add(step),
-        5 => words[place] = random.one_of(&[0, smallest, count_word(0), any_contact]),
+        5 => words[place] = random.one_of(&[0, 0x8000_0000, 0xC000_0000, any_contact]),
         _ => words[last] = words[last].wrapping_add(random.one_of(&[1, u32::MAX])),
     }
 }

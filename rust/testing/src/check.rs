@@ -2,18 +2,12 @@
 
 use crate::contents::Contents;
 use crate::rule::Stored;
-use crate::words::{self, Cells, Contact, Format, Interval, Opening, Stay, Window};
-use crate::words::{LAST_PEN, NEW};
+use crate::words::{self, Cells, Contact, Interval, Opening, Stay, Window, LAST_PEN};
 
 /// What the words of an open table store, or refusal 5 or 6.
 pub fn open_table(table: &[u32]) -> Result<Stored, u32> {
-    open_table_in(NEW, table)
-}
-
-/// What the words of an open table of this format store, or refusal 5 or 6.
-pub fn open_table_in(format: Format, table: &[u32]) -> Result<Stored, u32> {
     let first = table.first().ok_or(5u32)?;
-    let opening = format.read_opening(*first).ok_or(5u32)?;
+    let opening = words::read_opening(*first).ok_or(5u32)?;
     if table.len() != opening.table_words() {
         return Err(5);
     }
@@ -21,8 +15,8 @@ pub fn open_table_in(format: Format, table: &[u32]) -> Result<Stored, u32> {
     for u in 0..opening.animals {
         for v in 0..opening.animals {
             let start = opening.cell_start(u, v);
-            let cell = &table[start..start + opening.cell_words()];
-            let cell = read_cell(format, opening, cell).ok_or(6u32)?;
+            let cell =
+                read_cell(opening, &table[start..start + opening.cell_words()]).ok_or(6u32)?;
             if u == v && !cell.is_empty() {
                 return Err(6);
             }
@@ -194,8 +188,8 @@ fn stay(opening: Opening, record: &[u32]) -> Result<Stay, u32> {
 }
 
 /// The intervals of one cell's words, or none where the cell is not well formed.
-fn read_cell(format: Format, opening: Opening, cell: &[u32]) -> Option<Vec<Interval>> {
-    let rows = format.read_count(cell[0])?;
+fn read_cell(opening: Opening, cell: &[u32]) -> Option<Vec<Interval>> {
+    let rows = words::read_count(cell[0])?;
     if rows > opening.ticks {
         return None;
     }
@@ -205,7 +199,7 @@ fn read_cell(format: Format, opening: Opening, cell: &[u32]) -> Option<Vec<Inter
     }
     let mut intervals: Vec<Interval> = Vec::new();
     for &word in used {
-        let interval = format.read_interval(word)?;
+        let interval = words::read_interval(word)?;
         let last = intervals.last();
         let rising =
             last.is_none_or(|l| l.departure < interval.departure && l.arrival < interval.arrival);

@@ -8,7 +8,7 @@ use herd_testing::check;
 use herd_testing::model::{self, Contacts};
 use herd_testing::random::Random;
 use herd_testing::suite::draws;
-use herd_testing::words::{self, Opening, MOST_TICKS, PIECE};
+use herd_testing::words::{self, Opening};
 
 /// A herd, and the contacts that it must hold.
 struct Kept {
@@ -188,7 +188,7 @@ impl Kept {
         );
         if random.once_in(5) {
             let last = self.opening.ticks;
-            contact.tick = random.one_of(&[0, last + 1, last + PIECE, last + MOST_TICKS, u32::MAX]);
+            contact.tick = random.one_of(&[0, last + 1, last + 1024, u32::MAX]);
         }
         contact
     }

@@ -8,9 +8,7 @@ use herd::{Contact, Error, Herd};
 use herd_testing::cases;
 use herd_testing::random::Random;
 use herd_testing::suite::Reply;
-use herd_testing::words::{
-    Opening, LARGEST, LONGEST_CARRY, MOST_ANIMALS, MOST_TICKS, PIECE, SET_WORDS,
-};
+use herd_testing::words::{Opening, SET_WORDS};
 use std::fmt::Debug;
 
 /// A herd, and the words of the same table, made by calls on lent words.
@@ -146,9 +144,7 @@ pub fn edges(opening: Opening) -> Vec<u32> {
         u32::MAX - 1,
         u32::MAX,
     ];
-    let ends = [animals, ticks, opening.last_arrival()];
-    let largest = [MOST_ANIMALS, PIECE, MOST_TICKS, LARGEST.last_arrival()];
-    for end in ends.into_iter().chain(largest) {
+    for end in [animals, ticks, opening.last_arrival(), 256, 1024, 1280] {
         edges.extend([end - 1, end, end + 1, end + 2]);
     }
     edges.sort_unstable();
@@ -157,17 +153,16 @@ pub fn edges(opening: Opening) -> Vec<u32> {
 }
 
 /// Openings at their limits and between, with small tables.
-pub const OPENINGS: [(u32, u32, u32); 10] = [
+pub const OPENINGS: [(u32, u32, u32); 9] = [
     (1, 1, 1),
-    (1, MOST_TICKS, LONGEST_CARRY),
-    (2, 1, LONGEST_CARRY),
-    (2, PIECE + 1, 2),
-    (2, MOST_TICKS, 1),
+    (1, 1024, 256),
+    (2, 1, 256),
+    (2, 1024, 1),
     (3, 5, 2),
     (4, 6, 1),
     (7, 30, 31),
     (60, 3, 1),
-    (MOST_ANIMALS, 1, 9),
+    (256, 1, 9),
 ];
 
 /// So many legal contacts, or none where there is one animal.
@@ -231,7 +226,7 @@ fn questions_with_numbers_at_the_edges() {
 #[test]
 fn one_number_after_another_at_every_edge() {
     let mut met = Met::default();
-    for (animals, ticks, carry) in [(4, 6, 1), (2, MOST_TICKS, LONGEST_CARRY), (1, 3, 2)] {
+    for (animals, ticks, carry) in [(4, 6, 1), (2, 1024, 256), (1, 3, 2)] {
         let opening = Opening::new(animals, ticks, carry);
         let contact = Contact::new(0, 1, 2);
         let contacts = if animals > 1 {
@@ -257,21 +252,19 @@ fn one_number_after_another_at_every_edge() {
 }
 
 /// Numbers at the limits of animals, ticks and carry time, and far beyond.
-const LIMITS: [u32; 18] = [
+const LIMITS: [u32; 16] = [
     0,
     1,
     2,
     3,
-    MOST_ANIMALS - 1,
-    MOST_ANIMALS,
-    MOST_ANIMALS + 1,
-    MOST_ANIMALS + 2,
-    PIECE,
-    PIECE + 1,
-    MOST_TICKS - 1,
-    MOST_TICKS,
-    MOST_TICKS + 1,
-    MOST_TICKS + 2,
+    255,
+    256,
+    257,
+    258,
+    1023,
+    1024,
+    1025,
+    1026,
     65_536,
     65_537,
     1 << 31,

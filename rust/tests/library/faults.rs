@@ -1,7 +1,7 @@
 //! What is wrong with the numbers of a call, judged in the order of documents 01 and 02, and how an error must say it.
 
 use herd::{Contact, Error, Stay};
-use herd_testing::words::{Opening, LAST_PEN, LONGEST_CARRY, MOST_ANIMALS, MOST_TICKS};
+use herd_testing::words::{Opening, LAST_PEN};
 use std::fmt::Debug;
 use std::io::ErrorKind;
 
@@ -104,15 +104,13 @@ pub fn is_said(error: &Error) {
 /// The numbers and words of a log that an error's text must have.
 fn names(error: &Error) -> Vec<String> {
     match error {
-        Error::Animals(number) => numbers(&[*number, MOST_ANIMALS]),
-        Error::Ticks(number) => numbers(&[*number, MOST_TICKS]),
-        Error::Carry(number) => numbers(&[*number, LONGEST_CARRY]),
-        Error::NoOldTable | Error::OldCells => ["old", "format"].map(String::from).to_vec(),
+        Error::Animals(number) | Error::Carry(number) => numbers(&[*number, 256]),
+        Error::Ticks(number) => numbers(&[*number, 1024]),
         Error::NoSuchAnimal { animal, animals } => numbers(&[*animal, 0, animals - 1]),
         Error::SameAnimal(animal) => numbers(&[*animal]),
         Error::NoSuchTick { tick, last } => numbers(&[*tick, 1, *last]),
         Error::TurnedRound { first, last } => numbers(&[*first, *last]),
-        Error::NoSuchPen(pen) => numbers(&[*pen, 0, LAST_PEN]),
+        Error::NoSuchPen(pen) => numbers(&[*pen, 0, 63]),
         Error::Contact { contact, reason } => [of(*contact), names(reason)].concat(),
         Error::NotHeld(contact) => of(*contact),
         Error::DifferentOpenings { first, second } => numbers(&[*first, *second].concat()),

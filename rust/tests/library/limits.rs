@@ -1,4 +1,4 @@
-//! Very large herds, the largest, and those with one animal, one tick or the longest carry time.
+//! The largest herds, and those with one animal, one tick or the longest carry time.
 
 use crate::asked::Asked;
 use crate::met::Met;
@@ -8,13 +8,10 @@ use herd::{Added, Contact, Error, Herd, Interval, Stay};
 use herd_testing::cases;
 use herd_testing::model::{self, Contacts, Journeys};
 use herd_testing::random::Random;
-use herd_testing::words::{
-    self, Opening, Window, EDGE_TICKS, LARGEST, LARGEST_OLD, LAST_PEN, LONGEST_CARRY, MOST_ANIMALS,
-    MOST_TICKS, NEW, PIECE,
-};
+use herd_testing::words::{self, Opening, Window};
 
-/// A few hundred contacts of a very large herd, at its edges and between.
-fn contacts_of_large(random: &mut Random, opening: Opening) -> Vec<Contact> {
+/// A few hundred contacts of the largest herd, at its edges and between.
+fn contacts_of_largest(random: &mut Random, opening: Opening) -> Vec<Contact> {
     let mut list = cases::following_contacts(random, opening, 300);
     let (first, last) = (1, opening.ticks);
     list.extend(words::contacts([
@@ -42,7 +39,7 @@ fn some_pairs(random: &mut Random, asked: &Asked) -> Vec<(u32, u32)> {
     some
 }
 
-/// Asks every question about some pairs and windows of a very large herd.
+/// Asks every question about some pairs and windows of the largest herd.
 fn compare_some(random: &mut Random, asked: &Asked, met: &mut Met) {
     let opening = asked.opening;
     let pairs = some_pairs(random, asked);
@@ -51,8 +48,7 @@ fn compare_some(random: &mut Random, asked: &Asked, met: &mut Met) {
         let end = opening.last_arrival();
         asked.compare_pair(pair, [1, 700, end].into_iter(), met);
     }
-    let end = opening.ticks;
-    for (first, last) in [(1, end), (200, 900), (end, end)] {
+    for (first, last) in [(1, 1024), (200, 900), (1024, 1024)] {
         let window = Window::new(first, last);
         for &pair in &pairs {
             asked.compare_way(pair, window, met);
@@ -68,8 +64,8 @@ fn compare_some(random: &mut Random, asked: &Asked, met: &mut Met) {
     }
 }
 
-/// Adds a contact to a very large herd, and takes it out again.
-fn change_large(asked: &mut Asked) {
+/// Adds a contact to the largest herd, and takes it out again.
+fn change_largest(asked: &mut Asked) {
     let (opening, herd) = (asked.opening, &mut asked.herd);
     let before = herd.clone();
     let mut more = asked.journeys.contacts().clone();
@@ -87,15 +83,14 @@ fn change_large(asked: &mut Asked) {
     assert!(*herd == before);
 }
 
-/// Gives contacts that are none of its to a very large herd.
+/// Gives contacts that are none of its to the largest herd.
 fn refuse_contacts(herd: &mut Herd) {
-    let past = herd.ticks() + 1;
     let before = herd.clone();
     for (contact, number) in [
         (Contact::new(256, 0, 1), 7),
         (Contact::new(0, 258, 1), 7),
         (Contact::new(9, 9, 1), 8),
-        (Contact::new(0, 1, past), 9),
+        (Contact::new(0, 1, 1025), 9),
     ] {
         let refused = |error: Error| assert_eq!(error.number(), Some(number), "{error}");
         refused(herd.judge(contact).unwrap_err());
@@ -107,14 +102,10 @@ fn refuse_contacts(herd: &mut Herd) {
     assert!(*herd == before);
 }
 
-/// Adds stays to a very large herd, and joins it into what it was before.
-fn join_large(asked: &mut Asked) {
+/// Adds stays to the largest herd, and joins it into what it was before.
+fn join_largest(asked: &mut Asked) {
     let mut before = asked.herd.clone();
-    let end = asked.opening.ticks;
-    let stays = [
-        Stay::new(255, LAST_PEN, 1, end),
-        Stay::new(0, LAST_PEN, end, end),
-    ];
+    let stays = [Stay::new(255, 63, 1, 1024), Stay::new(0, 63, 1024, 1024)];
     let contacts = asked.journeys.contacts();
     let new = model::met(&stays).difference(contacts).count();
     assert_eq!(asked.herd.stays(&stays).unwrap(), new);
@@ -122,10 +113,10 @@ fn join_large(asked: &mut Asked) {
     assert!(asked.herd != before);
     assert_eq!(before.join(&asked.herd).unwrap(), new);
     assert!(asked.herd == before);
-    assert!(before.reach(0, 255, end..=end).unwrap());
+    assert!(before.reach(0, 255, 1024..=1024).unwrap());
 }
 
-/// Writes the log of a herd and reads it again.
+/// Writes the log of the largest herd and reads it again.
 fn there_and_back(asked: &Asked) {
     let mut written = Vec::new();
     asked.herd.write_log(&mut written).unwrap();
@@ -134,17 +125,13 @@ fn there_and_back(asked: &Asked) {
     assert!(Herd::read_log(&written[..]).unwrap() == asked.herd);
 }
 
-/// Each of the herds has 269 million bytes, and there are up to four of them at a time.
 #[test]
-fn very_large_herds() {
+fn the_largest_herds() {
     let mut random = Random::new(3_001);
     let mut met = Met::default();
     for carry in [256, 1] {
-        let opening = Opening {
-            carry,
-            ..LARGEST_OLD
-        };
-        let list = contacts_of_large(&mut random, opening);
+        let opening = Opening::new(256, 1024, carry);
+        let list = contacts_of_largest(&mut random, opening);
         let contacts: Contacts = list.iter().copied().collect();
         let mut herd = opened(opening);
         assert_eq!(herd.extend(list).unwrap(), contacts.len());
@@ -161,8 +148,8 @@ fn very_large_herds() {
             refuse_contacts(&mut asked.herd);
         }
         there_and_back(&asked);
-        change_large(&mut asked);
-        join_large(&mut asked);
+        change_largest(&mut asked);
+        join_largest(&mut asked);
     }
     met.answers(8, "reach", &["yes", "no"]);
     met.answers(2, "claimed", &["yes", "no"]);
@@ -172,51 +159,9 @@ fn very_large_herds() {
     met.answers(1, "reached", &["none", "some"]);
 }
 
-/// The herd has 1,074 million bytes, and so has the one that is read from its log.
-#[test]
-fn the_largest_herd() {
-    let opening = LARGEST;
-    let (last, end) = (MOST_ANIMALS - 1, opening.ticks);
-    let list = words::contacts([
-        (0, last, 1),
-        (last, 7, 1 + LONGEST_CARRY),
-        (7, 9, PIECE),
-        (9, 254, 2 * PIECE + 1),
-        (254, 3, end),
-        (3, 0, end),
-        (last, 7, 1 + LONGEST_CARRY),
-    ]);
-    let contacts: Contacts = list.into_iter().collect();
-    let mut herd = opened(opening);
-    assert_eq!(herd.extend(list).unwrap(), contacts.len());
-    let journeys = Journeys::new(opening, contacts);
-    let asked = Asked {
-        opening,
-        herd,
-        journeys,
-    };
-    let mut met = Met::default();
-    asked.compare_contacts(&mut met);
-    for (u, v, first, last) in [(0, 3, 1, end), (0, 3, 1, end - 1), (3, 0, end, end)] {
-        let window = Window::new(first, last);
-        asked.compare_way((u, v), window, &mut met);
-        asked.compare_reached(u, window, &mut met);
-    }
-    asked.compare_pair(
-        (0, 3),
-        [1, end, opening.last_arrival()].into_iter(),
-        &mut met,
-    );
-    met.answers(1, "reach", &["yes", "no"]);
-    met.answers(1, "chain", &["none", "one contact", "several contacts"]);
-    there_and_back(&asked);
-}
-
 #[test]
 fn one_animal_alone() {
-    let short = [(1, 1), (1, LONGEST_CARRY), (7, 2), (MOST_TICKS, 1)];
-    let edges = EDGE_TICKS.map(|ticks| (ticks, LONGEST_CARRY));
-    for (ticks, carry) in short.into_iter().chain(edges) {
+    for (ticks, carry) in [(1, 1), (1, 256), (7, 2), (1024, 1), (1024, 256)] {
         let opening = Opening::new(1, ticks, carry);
         let mut herd = opened(opening);
         let calendar = herd.calendar();
@@ -286,30 +231,34 @@ fn one_tick_with_every_contact() {
 
 #[test]
 fn every_contact_of_the_longest_calendar() {
-    let last = MOST_TICKS;
-    for carry in [1, 2, LONGEST_CARRY] {
-        let opening = Opening::new(2, last, carry);
+    for carry in [1, 2, 256] {
+        let opening = Opening::new(2, 1024, carry);
         let mut herd = extended(opening, &cases::legal_contacts(opening));
-        assert_eq!(herd.held(), 2 * last as usize);
-        let rows: Vec<Interval> = (1..=last).map(|t| Interval::new(t, t + carry)).collect();
+        assert_eq!(herd.held(), 2048);
+        let rows: Vec<Interval> = (1..=1024).map(|t| Interval::new(t, t + carry)).collect();
         assert_eq!(herd.intervals(0, 1).unwrap(), rows);
         assert_eq!(herd.intervals(1, 0).unwrap(), rows);
         assert_eq!(herd.contacts().unwrap(), cases::legal_contacts(opening));
         let end = opening.last_arrival();
         assert_eq!(herd.latest(1, 0, end).unwrap(), rows.last().copied());
-        assert_eq!(herd.earliest(1, 0, last).unwrap(), rows.last().copied());
-        herd.remove((1, 0, last)).unwrap();
-        let left = &rows[..rows.len() - 1];
-        assert_eq!(herd.intervals(1, 0).unwrap(), left);
-        assert_eq!(herd.latest(1, 0, end).unwrap(), left.last().copied());
+        assert_eq!(herd.earliest(1, 0, 1024).unwrap(), rows.last().copied());
+        herd.remove((1, 0, 1024)).unwrap();
+        assert_eq!(herd.intervals(1, 0).unwrap(), rows[..1023]);
+        assert_eq!(herd.latest(1, 0, end).unwrap(), Some(rows[1022]));
     }
 }
 
 #[test]
 fn more_contacts_than_an_end_word_can_count() {
-    let most = NEW.logged.capacity() as usize - 1;
+    let most = (1 << 26) - 1;
     let opening = Opening::new(2, 2, 1);
-    for (held, given) in [(0, most + 1), (1, most)] {
+    for (held, given) in [
+        (0, most),
+        (0, most + 1),
+        (1, most - 1),
+        (1, most),
+        (2, most + 9),
+    ] {
         let legal = cases::legal_contacts(opening);
         let mut herd = extended(opening, &legal[..held]);
         let many = (0..given).map(|place| legal[place % 3]);

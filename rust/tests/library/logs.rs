@@ -9,7 +9,7 @@ use herd_testing::cases;
 use herd_testing::model::Contacts;
 use herd_testing::random::Random;
 use herd_testing::suite::draws;
-use herd_testing::words::{self, Opening, MOST_ANIMALS, NEW};
+use herd_testing::words::{self, Opening};
 
 /// The words that are read or written at a time.
 pub const PIECE: usize = 1 << 14;
@@ -171,7 +171,7 @@ fn each_bit_of_small_logs_turned_over() {
             compare(&damaged, &mut met);
         }
     }
-    met.refusals(160, "read", &[11, 12, 13, 14]);
+    met.refusals(200, "read", &[11, 12, 13, 14]);
     met.answers(50, "read", &["with repeats", "without"]);
 }
 
@@ -191,11 +191,10 @@ fn damaged_logs() {
 fn one_wrong_word_at_every_place() {
     let mut random = Random::new(2_805);
     let mut met = Met::default();
-    let unnamed = words::unnamed(&NEW.of_contact());
     for _ in 0..60 {
         let opening = draws::opening(&mut random);
         let log = words::log(opening, cases::log_contacts(&mut random, opening, 12));
-        let beyond = Contact::new(opening.animals.min(MOST_ANIMALS - 1), 0, 1);
+        let beyond = Contact::new(opening.animals.min(255), 0, 1);
         let late = Contact::new(0, 1, opening.ticks + 1);
         for wrong in [
             0,
@@ -205,7 +204,7 @@ fn one_wrong_word_at_every_place() {
             words::contact_word(beyond),
             words::contact_word(late),
             random.word(),
-            words::contact_word(late) | 1 << random.one_of(&unnamed),
+            words::contact_word(late) | 1 << random.between(26, 29),
         ] {
             for place in 1..log.len() {
                 let mut damaged = log.clone();
@@ -226,7 +225,7 @@ fn bytes_of_no_meaning() {
         let mut log: Vec<u8> = (0..length).map(|_| random.bits() as u8).collect();
         if random.once_in(2) && length >= 4 {
             let drawn = draws::opening(&mut random);
-            let any = words::as_opening(random.word());
+            let any = words::OPENING << 30 | random.word() & 0x03FF_FFFF;
             let first = if round < 40 {
                 any
             } else {

@@ -2,7 +2,6 @@
 //! what an error must say.
 
 mod asked;
-mod carried;
 mod changes;
 mod claims;
 mod equality;

@@ -10,7 +10,7 @@ use herd_testing::cases;
 use herd_testing::random::Random;
 use herd_testing::suite::draws;
 use herd_testing::suite::Reply;
-use herd_testing::words::{Opening, MOST_ANIMALS, MOST_TICKS, PIECE};
+use herd_testing::words::Opening;
 
 /// The error of a call on a copy of the herd, which it must leave as it was; none where the call is not refused.
 #[track_caller]
@@ -86,11 +86,10 @@ fn contacts_with_numbers_at_the_edges() {
     met.refusals(100, "remove", &[21]);
 }
 
-/// Numbers around the multiples of the numbers of animals and of ticks that a field or a piece has room for, and around
-/// every higher power of two, at which the fields of a contact word and the word itself end.
+/// Numbers around the multiples of 256 and of 1,024 and around every higher power of two, at which the fields of a contact
+/// word and the word itself end.
 fn around_fields() -> Vec<u32> {
-    let rooms = [MOST_ANIMALS, PIECE, MOST_TICKS].map(u64::from);
-    let mut ends: Vec<u64> = (1..=16).flat_map(|k| rooms.map(|room| room * k)).collect();
+    let mut ends: Vec<u64> = (1..=16).flat_map(|k| [256 * k, 1024 * k]).collect();
     ends.extend((8..=32).map(|power| 1 << power));
     ends.extend((1..=4).map(|k| k * 16_384 + 256 * k));
     let near = ends.iter().flat_map(|end| end - 3..=end + 3);
@@ -104,12 +103,7 @@ fn around_fields() -> Vec<u32> {
 /// seen.
 fn full_and_empty() -> Vec<Both> {
     let mut herds = Vec::new();
-    for (animals, ticks, carry) in [
-        (4, 6, 1),
-        (2, PIECE + 1, 2),
-        (2, MOST_TICKS, 2),
-        (MOST_ANIMALS, 1, 1),
-    ] {
+    for (animals, ticks, carry) in [(4, 6, 1), (3, 1024, 2), (256, 1, 1)] {
         let opening = Opening::new(animals, ticks, carry);
         herds.push(Both::new(opening, &[]));
         if animals < 10 {
@@ -136,14 +130,7 @@ fn no_contact_is_packed_into_another_one() {
     let mut random = Random::new(2_702);
     let mut met = Met::default();
     let numbers = around_fields();
-    let listed = [
-        MOST_ANIMALS + 2,
-        PIECE + 1,
-        MOST_TICKS + 1,
-        16_384,
-        1 << 22,
-        u32::MAX,
-    ];
+    let listed = [258, 1025, 16_384, 1 << 22, u32::MAX];
     assert!(listed.iter().all(|number| numbers.contains(number)));
     for both in full_and_empty() {
         let opening = both.opening;

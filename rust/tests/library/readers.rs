@@ -7,7 +7,7 @@ use herd::{Contact, Error, Herd};
 use herd_testing::cases;
 use herd_testing::random::Random;
 use herd_testing::suite::draws;
-use herd_testing::words::{self, Opening, KIND, NEW};
+use herd_testing::words::{self, Opening};
 use std::io::{self, ErrorKind, Read};
 
 /// Kinds of errors that are not passed over.
@@ -169,7 +169,7 @@ fn readers_that_fail() {
 }
 
 /// The most contacts that an end word can count.
-const MOST: u64 = NEW.logged.capacity() as u64 - 1;
+const MOST: u64 = (1 << 26) - 1;
 
 #[test]
 fn readers_that_never_end() {
@@ -187,8 +187,7 @@ fn readers_that_never_end() {
             "{given}"
         );
     }
-    let unnamed = opening | 1 << words::unnamed(&NEW.of_opening())[0];
-    for first in [0, contact, words::end_word(0), unnamed, u32::MAX] {
+    for first in [0, contact, words::end_word(0), opening | 1 << 26, u32::MAX] {
         let mut given = 0;
         let error = Herd::read_log(Endless::new(first, opening, &mut given)).unwrap_err();
         assert!(matches!(error, Error::NoOpeningWord), "{error:?}");
@@ -204,7 +203,9 @@ fn the_longest_log_is_read_and_one_contact_more_is_too_long() {
     for (contacts, longest) in [(MOST, true), (MOST + 1, false)] {
         let mut given = 0;
         let endless = Endless::new(first, words::contact_word(contact), &mut given);
-        let end = (KIND.put(words::END) + contacts as u32).to_be_bytes();
+        let end = (words::END << 30)
+            .wrapping_add(contacts as u32)
+            .to_be_bytes();
         let read = Herd::read_log(endless.take(4 * (1 + contacts)).chain(&end[..]));
         match read {
             Ok(herd) => assert!(longest && herd == extended(opening, &[contact])),

@@ -2,11 +2,10 @@
 
 use crate::faults;
 use herd::{Contact, Error, Stay};
-use herd_testing::words::{LARGEST, MOST_ANIMALS, MOST_TICKS};
 use std::io;
 
 /// A contact that no herd has.
-const CONTACT: Contact = Contact::new(3, 258, MOST_TICKS + 1);
+const CONTACT: Contact = Contact::new(3, 258, 1025);
 
 /// There is no animal 258.
 fn no_such_animal(animals: u32) -> Error {
@@ -25,23 +24,18 @@ fn turned_round() -> Error {
     Error::TurnedRound { first, last }
 }
 
-/// The errors of openings, old tables and questions.
+/// The errors of openings and questions.
 fn of_numbers() -> Vec<(Error, u32)> {
     vec![
-        (Error::Animals(MOST_ANIMALS + 1), 1),
+        (Error::Animals(257), 1),
         (Error::Ticks(0), 2),
         (Error::Carry(u32::MAX), 3),
         (no_such_animal(1), 7),
         (no_such_animal(9), 7),
         (Error::SameAnimal(5), 8),
         (no_such_tick(0, 1), 9),
-        (
-            no_such_tick(LARGEST.last_arrival() + 1, LARGEST.last_arrival()),
-            9,
-        ),
+        (no_such_tick(1281, 1280), 9),
         (turned_round(), 19),
-        (Error::NoOldTable, 5),
-        (Error::OldCells, 6),
         (Error::Damaged(6), 6),
     ]
 }
@@ -65,7 +59,7 @@ fn of_changes() -> Vec<(Error, u32)> {
     vec![
         (in_contact(no_such_animal(4)), 7),
         (in_contact(Error::SameAnimal(77)), 8),
-        (in_contact(no_such_tick(MOST_TICKS + 1, MOST_TICKS)), 9),
+        (in_contact(no_such_tick(1025, 1024)), 9),
         (Error::NotHeld(CONTACT), 21),
         (Error::DifferentOpenings { first, second }, 17),
         (Error::NoSuchPen(64), 18),
@@ -109,10 +103,7 @@ fn every_error_with_a_number_says_it_and_what_it_names() {
     }
     said.sort_unstable();
     said.dedup();
-    assert_eq!(
-        said,
-        [1, 2, 3, 5, 6, 7, 8, 9, 11, 12, 13, 14, 17, 18, 19, 21]
-    );
+    assert_eq!(said, [1, 2, 3, 6, 7, 8, 9, 11, 12, 13, 14, 17, 18, 19, 21]);
 }
 
 #[test]
@@ -120,9 +111,7 @@ fn every_error_without_a_number_says_what_it_names() {
     for error in [
         Error::NotWholeWords { bytes: 1 << 40 },
         Error::LogTooLong,
-        Error::Memory {
-            words: LARGEST.table_words(),
-        },
+        Error::Memory { words: 67_174_401 },
     ] {
         assert_eq!(error.number(), None, "{error:?}");
         faults::is_said(&error);

@@ -9,7 +9,7 @@ use herd_testing::cases;
 use herd_testing::program::Program;
 use herd_testing::random::Random;
 use herd_testing::sheet::{MOST_ANIMALS, MOST_BYTES, MOST_TICKS};
-use herd_testing::words::{Contact, Opening, Window, LARGEST};
+use herd_testing::words::{Contact, Opening, Window};
 
 /// The proved printing program.
 const PRINTING: Program = Program {
@@ -235,14 +235,9 @@ fn answered_questions() {
 #[test]
 fn the_largest_herd() {
     let folder = Folder::new("the_largest_herd");
-    let contacts = [
-        (0, 255, 1),
-        (255, 7, 257),
-        (7, 254, LARGEST.ticks),
-        (3, 7, 768),
-    ];
+    let contacts = [(0, 255, 1), (255, 7, 257), (7, 254, 1024), (3, 7, 768)];
     let herd = Herd::new(
-        LARGEST,
+        Opening::new(256, 1024, 256),
         contacts.map(|(from, to, tick)| Contact::new(from, to, tick)),
     );
     load(&folder, &herd, &herd.listed());

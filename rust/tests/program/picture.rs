@@ -7,7 +7,7 @@ use crate::told::{Herd, Way, WAYS};
 use crate::traced::Traced;
 use herd::Herd as Library;
 use herd_testing::random::Random;
-use herd_testing::words::{contacts, Contact, Opening, Window, LONGEST_CARRY, MOST_TICKS};
+use herd_testing::words::{contacts, Contact, Opening, Window};
 
 /// The window as two options.
 fn asked(first: u32, last: u32) -> Asked {
@@ -79,25 +79,24 @@ fn a_lane_for_each_of_sixty_animals() {
 #[test]
 fn pictures_of_windows_at_their_limits() {
     let folder = Folder::new("pictures_of_windows_at_their_limits");
-    let (end, longest) = (MOST_TICKS, LONGEST_CARRY);
-    let row = contacts([(0, 1, 1), (1, 2, 1 + longest), (2, 3, end), (3, 4, end)]);
-    for (carry, first, last, found) in [
-        (longest, 1, end, 3),
-        (1, 1, end, 3),
-        (longest, 1, 1 + longest, 2),
-        (3, 1, 1, 1),
-        (longest, 1, 1, 1),
-        (1, 2, 2, 0),
-        (longest, end, end, 0),
-        (1, end, end, 0),
+    let row = contacts([(0, 1, 1), (1, 2, 257), (2, 3, 1024), (3, 4, 1024)]);
+    for (ticks, carry, first, last, found) in [
+        (1024, 256, 1, 1024, 3),
+        (1024, 1, 1, 1024, 3),
+        (1024, 256, 1, 257, 2),
+        (1024, 3, 1, 1, 1),
+        (1024, 256, 1, 1, 1),
+        (1024, 1, 2, 2, 0),
+        (1024, 256, 1024, 1024, 0),
+        (1024, 1, 1024, 1024, 0),
     ] {
-        let herd = Herd::new(Opening::new(5, end, carry), row);
+        let herd = Herd::new(Opening::new(5, ticks, carry), row);
         let traced = Traced::draw(&folder, &herd, Way::Trace, 0, &asked(first, last));
         assert_eq!(traced.found.len(), found, "{first} to {last}");
         traced.compare();
     }
-    for (first, last, animal, found) in [(end, end, 4, 1), (1, end, 3, 3)] {
-        let herd = Herd::new(Opening::new(5, end, longest), row);
+    for (ticks, first, last, animal, found) in [(1024, 1024, 1024, 4, 1), (1024, 1, 1024, 3, 3)] {
+        let herd = Herd::new(Opening::new(5, ticks, 256), row);
         let traced = Traced::draw(&folder, &herd, Way::Back, animal, &asked(first, last));
         assert_eq!(traced.found.len(), found, "{first} to {last}");
         traced.compare();

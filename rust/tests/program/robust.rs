@@ -8,7 +8,7 @@ use crate::yard::{herd, yard, OPENING};
 use herd_testing::check;
 use herd_testing::random::Random;
 use herd_testing::sheet;
-use herd_testing::words::{self, Window, LARGEST, NEW};
+use herd_testing::words::{self, Opening, Window};
 use std::fs::{self, File};
 use std::os::unix::fs::PermissionsExt;
 
@@ -123,7 +123,7 @@ fn turned_bits() {
         turned[bit / 8] ^= 0x80 >> (bit % 8);
         read_as_log(&folder, &turned, &mut met);
     }
-    met.at_least(&[("read", 20), ("(refusal 11)", 4), ("(refusal 12)", 12)]);
+    met.at_least(&[("read", 20), ("(refusal 11)", 6), ("(refusal 12)", 18)]);
     met.at_least(&[("(refusal 13)", 20), ("(refusal 14)", 32)]);
 }
 
@@ -237,8 +237,7 @@ fn logs_longer_than_any_log() {
     folder.put("huge.log", bytes);
     let file = File::options().write(true).open(folder.path("huge.log"));
     let file = file.expect("the huge log");
-    let most = u64::from(NEW.logged.capacity()) + 1;
-    file.set_len(4 * (most + 1)).expect("a file with a hole");
+    file.set_len(300_000_000).expect("a file with a hole");
     refuse_log(&folder, "huge.log", "longer than any log can be");
     file.set_len(40_000_000).expect("a file with a hole");
     refuse_log(&folder, "huge.log", "(refusal 12)");
@@ -248,12 +247,11 @@ fn logs_longer_than_any_log() {
 #[test]
 fn too_little_memory() {
     let folder = yard("too_little_memory");
-    let largest = LARGEST;
+    let largest = Opening::new(256, 1024, 256);
     folder.put("large.log", told::log_of(largest, []));
     let before = folder.kept();
-    let (animals, ticks) = (largest.animals, largest.ticks);
-    let load = format!("load --animals {animals} --ticks {ticks} --carry 1 reader.txt -o out.log");
-    for call in READING.iter().copied().chain([&load[..]]) {
+    let load = "load --animals 256 --ticks 1024 --carry 1 reader.txt -o out.log";
+    for call in READING.iter().chain(&[load]) {
         let outcome = folder.run_limited(&call.replace('@', "large.log"), LITTLE_MEMORY);
         let words = largest.table_words();
         let end = format!("no memory for {words} words of four bytes");

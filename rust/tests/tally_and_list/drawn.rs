@@ -5,7 +5,7 @@ use herd_testing::cases;
 use herd_testing::check;
 use herd_testing::contents::Contents;
 use herd_testing::random::Random;
-use herd_testing::words::{Contact, Opening, MOST_TICKS, NEW};
+use herd_testing::words::{Contact, Opening};
 
 /// An opening whose table fits in the program's memory; now and then the largest.
 pub fn opening(random: &mut Random) -> Opening {
@@ -18,14 +18,7 @@ pub fn opening(random: &mut Random) -> Opening {
 pub fn contact(random: &mut Random, opening: Opening) -> (u32, u32, u32) {
     let (u, v) = (animal(random, opening), animal(random, opening));
     let legal = random.between(1, opening.ticks);
-    let ends = [
-        0,
-        1,
-        opening.ticks,
-        opening.ticks + 1,
-        MOST_TICKS + 1,
-        u32::MAX,
-    ];
+    let ends = [0, 1, opening.ticks, opening.ticks + 1, 1025, u32::MAX];
     let end = random.one_of(&ends);
     (u, v, random.one_of(&[legal, legal, legal, legal, end]))
 }
@@ -100,7 +93,7 @@ pub fn damage(random: &mut Random, session: &mut Session) {
     let place = random.one_of(&[0, one]);
     let (word, step) = (
         session.table()[place],
-        random.one_of(&[1, NEW.departure.put(1), u32::MAX]),
+        random.one_of(&[1, 1 << 11, u32::MAX]),
     );
     match random.below(6) {
         0 => session.put(place, word ^ 1 << random.between(0, 31)),

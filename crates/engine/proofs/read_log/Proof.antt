@@ -1,7 +1,7 @@
 -- `read_log` meets its contract: each return is a case of the rule.
 use mathlib.Core.Path.{◌≡◌, refl}
 use mathlib.Core.Option.{none}
-use Rattle.rules.specs.Reading.{read_refusal, read_answer_in, read_leaves}
+use Rattle.rules.specs.Reading.{read_refusal, read_answer, read_leaves}
 use Rattle.checks.proofs.Judged.{verdict_refused, verdict_passed}
 use borrow.Author.Rules.{rules}
 use Rattle.engine.proofs.read_log.Statement.{statement}
@@ -16,11 +16,11 @@ passed : (c : tie.After-load-arg) → let a = (judged c).before.before.before.be
 passed c = verdict_passed (judged c).judge-read.ensures c.before.enum_told.given.1
 
 returns : tie.Need-returns
-unfolding read_answer_in read_leaves
+unfolding read_answer read_leaves
 returns c = let e = verdict_refused c.before.before.before.judge-read.ensures c.before.verdict.given.1 in (rw e refl, rw e refl)
 
 returns-2 : tie.Need-returns-2
-unfolding read_answer_in read_leaves
+unfolding read_answer read_leaves
 returns-2 c =
     let l = c.before.before in
     let e = passed l.before in

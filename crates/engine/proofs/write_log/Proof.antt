@@ -9,7 +9,7 @@ use Rattle.rules.specs.declared.Refusal.{Refusal}
 use Rattle.rules.specs.declared.Refusal.TheVariants.{LogBufferTooShort}
 use Rattle.rules.specs.declared.WriteAnswer.TheVariants.{Written}
 use Rattle.rules.specs.Answers.{ensure}
-use Rattle.rules.specs.Logs.{held_contacts, write_refusal_in, write_answer_in, write_leaves_in}
+use Rattle.rules.specs.Logs.{held_contacts, write_refusal, write_answer, write_leaves}
 use Rattle.rules.specs.Checks.{ValidTable}
 use Rattle.rules.proofs.Groups.{table-group, behind-valid}
 use Rattle.checks.proofs.Judged.{verdict_refused, table-valid}
@@ -29,7 +29,7 @@ valid : (c : tie.After-write-held-arg) → ValidTable (judged c).before.before.b
 valid c = table-valid (judged c).before.before.before.args.table.now (judged c).judge-table.ensures c.before.enum_told.given.1
 
 returns : tie.Need-returns
-unfolding write_answer_in write_leaves_in write_refusal_in
+unfolding write_answer write_leaves write_refusal
 returns c =
     let h = c.before.before.before in
     let r = h.write-held.ensures in
@@ -39,7 +39,7 @@ returns c =
     (rw (v, t) (ap Written r.1.0), rw (v, t) (rw t at r.1.1))
 
 returns-2 : tie.Need-returns-2
-unfolding write_answer_in write_leaves_in write_refusal_in
+unfolding write_answer write_leaves write_refusal
 returns-2 c =
     let j = c.before.before.before in
     let a = j.before.before.before.args in
@@ -47,7 +47,7 @@ returns-2 c =
     (rw e refl, rw e refl)
 
 returns-3 : tie.Need-returns-3
-unfolding write_answer_in write_leaves_in write_refusal_in
+unfolding write_answer write_leaves write_refusal
 returns-3 c =
     let h = c.before.before.before in
     let r = h.write-held.ensures in

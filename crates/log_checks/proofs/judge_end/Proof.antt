@@ -1,19 +1,20 @@
 -- `judge_end` meets its contract.
 use mathlib.Core.Path.{ap, ap₂, ◌∙◌}
-use mathlib.Core.Bool.{◌&&◌}
+use mathlib.Core.Bool.{Bool, ◌&&◌}
 use lib.Dec.{eqb}
 use lib.ListN.{length}
+use Prim.Native.Nat.{ℕ}
 use Rattle.rules.specs.declared.Refusal.TheVariants.{WrongEnd}
-use Rattle.words.specs.Layout.{is_of}
-use Rattle.words.specs.Words.{end_layout, logged_of}
-use Rattle.rules.specs.Reading.{is_true_end_in}
+use Rattle.words.specs.Layout.{get, is_of}
+use Rattle.words.specs.Words.{end_layout, logged_field}
+use Rattle.rules.specs.Reading.{is_true_end}
 use Rattle.checks.proofs.Judged.{check_as}
 use borrow.Author.Rules.{rules}
 use Rattle.log_checks.proofs.judge_end.Statement.{statement}
 use Rattle.log_checks.proofs.judge_end.Tie as tie
 
 returns : tie.Need-returns
-unfolding is_true_end_in
+unfolding is_true_end
 returns c =
     let e = c.before.before in
     let n = e.before in
@@ -21,7 +22,7 @@ returns c =
     check_as WrongEnd c.ensure.ensures
     (c.before.both.ensures
     ∙ ap₂ ◌&&◌ (e.is-end.ensures ∙ ap (is_of end_layout) w)
-    (ap₂ eqb (n.logged-of.ensures ∙ ap logged_of w) (ap length n.before.between.ensures)))
+    (ap₂ eqb (n.logged-of.ensures ∙ ap (get logged_field) w) (ap length n.before.between.ensures)))
 
 pub judge-end-spec : {M : Type 1} → statement M
 judge-end-spec =

@@ -3,7 +3,7 @@ use lib.Dec.{eqb}
 use lib.ListN.{length}
 use Rattle.rules.specs.declared.Refusal.TheVariants.{NotALog, WrongLength}
 use Rattle.rules.specs.Layout.{table_length, animals, ticks}
-use Rattle.rules.specs.Reading.{is_log, between, read_refusal_in}
+use Rattle.rules.specs.Reading.{is_log, between, read_refusal}
 use Rattle.rules.proofs.Groups.{one-check}
 use Rattle.checks.proofs.Judged.{chained, check_as}
 use Rattle.log_checks.proofs.Logged.{words-group}
@@ -16,7 +16,7 @@ abbrev judged : tie.After-and-then3 → tie.After-judge-end
 judged c = c.before.before.before
 
 returns : tie.Need-returns
-unfolding read_refusal_in
+unfolding read_refusal
 returns c =
     let j = judged c in
     let w = j.before in

@@ -1,4 +1,4 @@
--- `words::is_count` meets its contract: the fields fill the bits below bit 13, so what stands above them decides.
+-- `words::is_count` meets its contract: the fields fill the bits below bit 11, so what stands above them decides.
 use mathlib.Core.Path.{refl}
 use lib.Dec.{eqb→eq}
 use Rattle.words.specs.Words.{count_layout}
@@ -7,7 +7,7 @@ use Rattle.words.proofs.is_count.Statement.{statement}
 use Rattle.words.proofs.is_count.Tie as tie
 
 returns : tie.Need-returns
-returns c = is_of-test count_layout 13 _ _ _ (refl, refl) (eqb→eq _ _ tt) (eqb→eq _ _ tt)
+returns c = is_of-test count_layout 11 _ _ _ (refl, refl) (eqb→eq _ _ tt) (eqb→eq _ _ tt)
 
 pub is-count-spec : {M : Type 1} → statement M
 is-count-spec = tie.close (tie.spec returns)

@@ -1,4 +1,4 @@
--- `words::is_end` meets its contract: the fields fill the bits below bit 28, so what stands above them decides.
+-- `words::is_end` meets its contract: the fields fill the bits below bit 26, so what stands above them decides.
 use mathlib.Core.Path.{refl}
 use lib.Dec.{eqb→eq}
 use Rattle.words.specs.Words.{end_layout}
@@ -7,7 +7,7 @@ use Rattle.words.proofs.is_end.Statement.{statement}
 use Rattle.words.proofs.is_end.Tie as tie
 
 returns : tie.Need-returns
-returns c = is_of-test end_layout 28 _ _ _ (refl, refl) (eqb→eq _ _ tt) (eqb→eq _ _ tt)
+returns c = is_of-test end_layout 26 _ _ _ (refl, refl) (eqb→eq _ _ tt) (eqb→eq _ _ tt)
 
 pub is-end-spec : {M : Type 1} → statement M
 is-end-spec = tie.close (tie.spec returns)

@@ -1,4 +1,4 @@
--- `words::is_interval` meets its contract: the fields fill the bits below bit 26, so what stands above them decides.
+-- `words::is_interval` meets its contract: the fields fill the bits below bit 22, so what stands above them decides.
 use mathlib.Core.Path.{refl}
 use lib.Dec.{eqb→eq}
 use Rattle.words.specs.Words.{interval_layout}
@@ -7,7 +7,7 @@ use Rattle.words.proofs.is_interval.Statement.{statement}
 use Rattle.words.proofs.is_interval.Tie as tie
 
 returns : tie.Need-returns
-returns c = is_of-test interval_layout 26 _ _ _ (refl, (refl, refl)) (eqb→eq _ _ tt) (eqb→eq _ _ tt)
+returns c = is_of-test interval_layout 22 _ _ _ (refl, (refl, refl)) (eqb→eq _ _ tt) (eqb→eq _ _ tt)
 
 pub is-interval-spec : {M : Type 1} → statement M
 is-interval-spec = tie.close (tie.spec returns)

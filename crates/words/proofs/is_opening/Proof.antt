@@ -1,4 +1,4 @@
--- `words::is_opening` meets its contract: the fields fill the bits below bit 28, so what stands above them decides.
+-- `words::is_opening` meets its contract: the fields fill the bits below bit 26, so what stands above them decides.
 use mathlib.Core.Path.{refl}
 use lib.Dec.{eqb→eq}
 use Rattle.words.specs.Words.{opening_layout}
@@ -7,7 +7,7 @@ use Rattle.words.proofs.is_opening.Statement.{statement}
 use Rattle.words.proofs.is_opening.Tie as tie
 
 returns : tie.Need-returns
-returns c = is_of-test opening_layout 28 _ _ _ (refl, (refl, (refl, (refl, refl)))) (eqb→eq _ _ tt) (eqb→eq _ _ tt)
+returns c = is_of-test opening_layout 26 _ _ _ (refl, (refl, (refl, refl))) (eqb→eq _ _ tt) (eqb→eq _ _ tt)
 
 pub is-opening-spec : {M : Type 1} → statement M
 is-opening-spec = tie.close (tie.spec returns)

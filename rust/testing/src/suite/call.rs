@@ -19,8 +19,6 @@ pub enum Call {
     Stays(Vec<u32>),
     /// The animal left, the animal met, the tick, and the words for work.
     Remove(u32, u32, u32, Vec<u32>),
-    /// The old table; the table lent is the new one.
-    CarryOver(Vec<u32>),
     /// The buffer.
     WriteLog(Vec<u32>),
     /// From, to, first, last.
@@ -71,7 +69,6 @@ impl Call {
             Call::Join(..) => Export::Join,
             Call::Stays(..) => Export::Stays,
             Call::Remove(..) => Export::Remove,
-            Call::CarryOver(..) => Export::CarryOver,
             Call::WriteLog(..) => Export::WriteLog,
             Call::Reach(..) => Export::Reach,
             Call::Earliest(..) => Export::Earliest,
@@ -125,11 +122,6 @@ impl Call {
                 let mut work = lend(1, work);
                 let answer = herd::calls::remove(&mut table, &mut work, u, v, t);
                 Outcome::new(answer, &table, &work)
-            }
-            Call::CarryOver(ref old) => {
-                let old = lend(1, old).freeze();
-                let answer = herd::calls::carry_over(&old, &mut table);
-                Outcome::new(answer, &table, &old)
             }
             Call::WriteLog(ref buffer) => {
                 let (table, mut buffer) = (table.freeze(), lend(1, buffer));
@@ -196,10 +188,6 @@ impl Call {
             Call::Remove(u, v, t, ref work) => {
                 let (answer, [table, work]) = known.remove(table, work, u, v, t);
                 Outcome::new(answer, &table, &work)
-            }
-            Call::CarryOver(ref old) => {
-                let (answer, after) = calls::carry_over(old, table);
-                Outcome::new(answer, &after, old)
             }
             Call::WriteLog(ref buffer) => {
                 let (answer, after) = known.write_log(buffer);

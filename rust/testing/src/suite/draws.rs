@@ -6,7 +6,6 @@ use super::reply::Export;
 use crate::cases;
 use crate::random::Random;
 use crate::words::{self, Cells, Contact, Opening, Stay, Window};
-use crate::words::{LARGEST, LARGEST_OLD, LEFT, OLD};
 
 impl Lent {
     /// A call of this kind.
@@ -24,7 +23,6 @@ impl Lent {
             Export::Join => Call::Join(self.second(random)),
             Export::Stays => Call::Stays(stays(random, opening)),
             Export::Remove => self.draw_remove(random),
-            Export::CarryOver => Call::CarryOver(self.old(random)),
             Export::WriteLog => Call::WriteLog(buffer(random, self.held.len() + 2)),
             Export::Reach => Call::Reach(u, v, first, last),
             Export::Earliest => {
@@ -51,13 +49,8 @@ impl Lent {
     /// An opening, mostly with the numbers for which the table has its length.
     fn draw_open(&self, random: &mut Random) -> Call {
         let opening = self.opening;
-        let Opening {
-            animals,
-            ticks,
-            carry,
-        } = LARGEST;
-        let beyond = [0, animals + 1, ticks + 1, 1 << 16, 1 << 31, u32::MAX];
-        let mut numbers = [opening.animals, opening.ticks, random.between(1, carry)];
+        let beyond = [0, 257, 1025, 1 << 16, 1 << 31, u32::MAX];
+        let mut numbers = [opening.animals, opening.ticks, random.between(1, 256)];
         if random.once_in(3) {
             numbers[random.below(3)] = random.one_of(&beyond);
         }
@@ -102,25 +95,6 @@ impl Lent {
             cases::damaged(random, &second)
         } else {
             second
-        }
-    }
-
-    /// A table of the old format, mostly a well-formed one with this one's numbers; where the old format has none with these,
-    /// or the words have not the length for them, it has numbers of its own.
-    fn old(&self, random: &mut Random) -> Vec<u32> {
-        let mut opening = self.opening;
-        let fits = self.words.len() == opening.table_words() && opening.ticks < LARGEST_OLD.ticks;
-        if !fits {
-            opening = cases::opening(random);
-        } else if random.once_in(8) {
-            opening = cases::other_opening(random, opening);
-        }
-        let contacts = cases::log_contacts(random, opening, 8);
-        let cells = cases::lone_cells(random, opening, &contacts);
-        match random.below(8) {
-            0 => words::table(opening, &cells),
-            1 | 2 => cases::damaged(random, &OLD.table(opening, &cells)),
-            _ => OLD.table(opening, &cells),
         }
     }
 
@@ -207,7 +181,7 @@ impl Lent {
     /// Changes, moves, leaves out or puts in one word of a chain.
     fn damage(&self, random: &mut Random, chain: &mut Vec<u32>) {
         let other = if self.held.is_empty() || random.once_in(3) {
-            words::as_contact(random.word())
+            0x4000_0000 | random.word() & 0x03FF_FFFF
         } else {
             words::contact_word(random.one_of(&self.held))
         };
@@ -215,7 +189,7 @@ impl Lent {
             return chain.push(other);
         }
         let (place, second) = (random.below(chain.len()), random.below(chain.len()));
-        let step = random.one_of(&cases::field_steps());
+        let step = random.one_of(&[1, 1 << 10, 1 << 18, u32::MAX]);
         match random.below(9) {
             0 => chain.clear(),
             1 => drop(chain.remove(0)),
@@ -237,10 +211,10 @@ pub fn animal(random: &mut Random, opening: Opening) -> u32 {
         random.one_of(&[
             n,
             n + 1,
-            n.max(LARGEST.animals - 1),
-            LARGEST.animals,
+            255.max(n),
+            256,
             1 << 16,
-            LEFT.put(1),
+            1 << 18,
             1 << 31,
             u32::MAX,
         ])
@@ -252,10 +226,7 @@ pub fn animal(random: &mut Random, opening: Opening) -> u32 {
 /// A tick from 1 to the last, often one of these two, or now and then a number beyond.
 pub fn tick(random: &mut Random, last: u32) -> u32 {
     match random.below(12) {
-        0 => {
-            let beyond = LARGEST.last_arrival() + 1;
-            random.one_of(&[0, last + 1, last + 2, beyond, 1 << 31, u32::MAX])
-        }
+        0 => random.one_of(&[0, last + 1, last + 2, 2048, 1 << 31, u32::MAX]),
         1 => random.one_of(&[1, last]),
         _ => random.between(1, last),
     }

@@ -13,7 +13,6 @@ pub enum Export {
     Join,
     Stays,
     Remove,
-    CarryOver,
     WriteLog,
     Reach,
     Earliest,
@@ -63,14 +62,13 @@ pub enum Reply {
 
 impl Export {
     /// Every call.
-    pub const ALL: [Export; 15] = [
+    pub const ALL: [Export; 14] = [
         Export::Open,
         Export::ReadLog,
         Export::Add,
         Export::Join,
         Export::Stays,
         Export::Remove,
-        Export::CarryOver,
         Export::WriteLog,
         Export::Reach,
         Export::Earliest,
@@ -105,7 +103,7 @@ impl Export {
             Export::Add => &["new", "known"],
             Export::Join => &["joined"],
             Export::Stays => &["stays added"],
-            Export::Remove | Export::CarryOver => &["done"],
+            Export::Remove => &["done"],
             Export::WriteLog => &["written"],
             Export::Reach | Export::Connected | Export::Claimed => &["yes", "no"],
             Export::Earliest | Export::Latest => &["at", "nothing"],
@@ -122,7 +120,6 @@ impl Export {
             Export::Join => &[5, 6, 17],
             Export::Stays => &[5, 6, 18],
             Export::Remove => &[5, 6, 20, 7, 8, 9, 21],
-            Export::CarryOver => &[5, 6, 20],
             Export::WriteLog => &[5, 6, 15],
             Export::Connected => &[5, 6, 9, 19],
             Export::Reached => &[5, 6, 7, 9, 19],

@@ -5,7 +5,8 @@ use mathlib.Core.List.{[], ◌∷◌, ◌++◌}
 use native.Mathlib.Omega.{arith}
 use borrow.Author.Rules.{rules}
 use lib.ListN.{set}
-use Rattle.words.specs.Words.{interval_of}
+use Rattle.words.specs.Layout.{get}
+use Rattle.words.specs.Words.{arrival_field, interval_of}
 use Rattle.rules.specs.Sheet.{decimal, space, dash, interval_text}
 use Rattle.table_text.proofs.Writing.{Writing, back, inside, start, byte, number_fits, number, fits_last, last, end}
 use Rattle.table_text.proofs.cell.put_interval.Statement.{statement}
@@ -27,18 +28,18 @@ arriving c = c.before.before
 -- The space is written.
 wrote1 : (c : tie.After-departure-of)
     → let s = (entry c).args in
-    Writing (interval_text (interval_of s.w)) s.out.now (set s.out.now 0 space) 1 (decimal c.departure-of.result ++ (dash ∷ decimal (interval_of s.w).arrival))
+    Writing (interval_text (interval_of s.w)) s.out.now (set s.out.now 0 space) 1 (decimal c.departure-of.result ++ (dash ∷ decimal (get arrival_field s.w)))
 unfolding interval_text
-wrote1 c = let s = entry c in byte (start _ _ _ (ap (λ (d : ℕ). space ∷ (decimal d ++ (dash ∷ decimal (interval_of s.args.w).arrival))) c.departure-of.ensures) s.pre) space _ refl
+wrote1 c = let s = entry c in byte (start _ _ _ (ap (λ (d : ℕ). space ∷ (decimal d ++ (dash ∷ decimal (get arrival_field s.args.w)))) c.departure-of.ensures) s.pre) space _ refl
 
 -- The departure is written.
 wrote2 : (c : tie.After-put-then)
     → let s = (entry (departing c)).args in
-    Writing (interval_text (interval_of s.w)) s.out.now (back (set s.out.now 0 space) 1 c.put_then.new.1.1.0) (1 + c.put_then.result) (decimal (interval_of s.w).arrival)
+    Writing (interval_text (interval_of s.w)) s.out.now (back (set s.out.now 0 space) 1 c.put_then.new.1.1.0) (1 + c.put_then.result) (decimal (get arrival_field s.w))
 wrote2 c = number (wrote1 (departing c)) _ _ (departing c).departure-of.result dash _ refl c.put_then.ensures.0 c.put_then.ensures.1
 
 -- The text of the arrival, as it was read.
-text : (c : tie.After-arrival-of) → decimal (interval_of (entry (departing (first c))).args.w).arrival ≡ decimal c.arrival-of.result
+text : (c : tie.After-arrival-of) → decimal (get arrival_field (entry (departing (first c))).args.w) ≡ decimal c.arrival-of.result
 text c = ap (λ (x : ℕ). decimal x) (sym c.arrival-of.ensures)
 
 -- The arrival is written.

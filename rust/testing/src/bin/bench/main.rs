@@ -5,7 +5,6 @@
 mod adding;
 mod adds;
 mod asking;
-mod carrying;
 mod clock;
 mod closure;
 mod growth;
@@ -21,7 +20,6 @@ mod workloads;
 
 use adding::Adding;
 use asking::Asking;
-use carrying::Carrying;
 use joining::Joining;
 use loading::Loading;
 use page::Goal;
@@ -44,7 +42,7 @@ const WRITING: Goal = Goal::AtMost(3.0);
 const ADDING: Goal = Goal::AtMost(1.0);
 /// A join less its checks over its adds made singly, less theirs, on the season.
 const JOINING: Goal = Goal::AtMost(1.1);
-/// Joining a few contacts over one read of both tables, on a large one.
+/// Joining a few contacts over one read of both tables, on the largest.
 const JOINING_FEW: Goal = Goal::AtMost(5.0);
 /// The contacts of each of these tables.
 const FEW: usize = 200;
@@ -56,8 +54,6 @@ const STAYS: usize = 5_000;
 const LOADS: f64 = 1.3;
 /// The same in reads of the table.
 const REMOVING: Goal = Goal::AtMost(6.0);
-/// Carrying an old table over, over one read of the words of both tables.
-const CARRYING: Goal = Goal::AtMost(6.0);
 /// Loading a reader file by the program over the engine's load of that log.
 const READERS: Goal = Goal::AtMost(2.0);
 
@@ -70,7 +66,6 @@ fn main() {
     print_joins(&workloads);
     print_stays();
     print_removals(&workloads);
-    print_carrying(&workloads);
     print_readers();
     growth::print();
 }
@@ -124,7 +119,7 @@ fn print_most(closures: &[f64]) {
 /// Prints the ratio of loading a few contacts to one write of their table.
 fn print_few(ratio: f64) {
     let (number, verdict) = (page::number(ratio), page::verdict(LOADING_FEW.met(ratio)));
-    println!("256 animals, 1024 ticks, the engine's time over one write of its words: {number}; goal {LOADING_FEW}, {verdict}");
+    println!("largest table, the engine's time over one write of its words: {number}; goal {LOADING_FEW}, {verdict}");
 }
 
 /// Prints the ratios of single calls on the tables loaded.
@@ -170,10 +165,10 @@ fn print_joins(workloads: &[Workload]) {
     println!(
         "open: beside the checks of the table the adds were too short to be measured well enough"
     );
-    let (join, read) = Joining::new(&workloads::large(2 * FEW)).join_and_read();
+    let (join, read) = Joining::new(&workloads::largest(2 * FEW)).join_and_read();
     let ratio = join / read;
     let (number, verdict) = (page::number(ratio), page::verdict(JOINING_FEW.met(ratio)));
-    println!("256 animals, 1024 ticks, {FEW} contacts joined with {FEW}, over one read of the words of both tables: {number}; goal {JOINING_FEW}, {verdict}");
+    println!("largest table, {FEW} contacts joined with {FEW}, over one read of the words of both tables: {number}; goal {JOINING_FEW}, {verdict}");
 }
 
 /// Prints the ratios of adding the contacts of many stays, and of stays that share nothing.
@@ -215,22 +210,6 @@ fn print_removals(workloads: &[Workload]) {
             page::number(times.remove / times.load),
         ];
         page::line(workload.name, &cells);
-    }
-}
-
-/// Prints the ratios of carrying the table of each workload over, where the old format has such a table.
-fn print_carrying(workloads: &[Workload]) {
-    page::head(
-        "Carrying a table of the old format over: over one read of the words of both tables",
-        &["in reads"],
-    );
-    page::goals(&[CARRYING]);
-    for workload in workloads {
-        if let Some(mut carrying) = Carrying::new(workload) {
-            let times = carrying.run();
-            let ratio = CARRYING.judged(times.carry_over / times.read);
-            page::line(workload.name, &[ratio]);
-        }
     }
 }
 

@@ -1,6 +1,6 @@
 //! The words of a table and of a log in safe Rust, without a check of either.
 
-use herd_testing::words::{self, Contact, Opening, NEW};
+use herd_testing::words::{self, Contact, Opening};
 
 /// The opening of a log.
 pub fn log_opening(log: &[u32]) -> Opening {
@@ -24,15 +24,15 @@ pub fn open(opening: Opening, table: &mut [u32]) {
 
 /// The rows in use of a cell.
 pub fn used(cell: &[u32]) -> &[u32] {
-    &cell[1..1 + NEW.rows.get(cell[0]) as usize]
+    &cell[1..1 + words::bits(cell[0], 10, 0) as usize]
 }
 
 /// The departure of a row.
 pub fn departure(row: u32) -> u32 {
-    NEW.departure.get(row)
+    words::bits(row, 21, 11)
 }
 
 /// The arrival of a row.
 pub fn arrival(row: u32) -> u32 {
-    NEW.arrival.get(row)
+    words::bits(row, 10, 0)
 }

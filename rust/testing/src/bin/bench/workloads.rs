@@ -2,7 +2,7 @@
 
 use herd_testing::cases;
 use herd_testing::random::Random;
-use herd_testing::words::{self, Contact, Opening, Stay, LARGEST_OLD, LAST_PEN};
+use herd_testing::words::{self, Contact, Opening, Stay, LAST_PEN};
 
 /// The seed of every log and question.
 pub const SEED: u64 = 8;
@@ -76,19 +76,13 @@ pub fn all() -> Vec<Workload> {
         Workload::complete("complete, 100 animals", Opening::new(100, 10, 1)),
         Workload::drawn(SEASON, SEASON_OPENING, 6_000),
         Workload::drawn("dense pen", Opening::new(24, 256, 3), 60_000),
-        large(200),
+        largest(200),
     ]
 }
 
-/// A large opening: that of the largest table of the old format, with a short carry time.
-const LARGE_OPENING: Opening = Opening {
-    carry: 2,
-    ..LARGEST_OLD
-};
-
-/// So many contacts of a large table.
-pub fn large(contacts: usize) -> Workload {
-    Workload::drawn("256 animals, 1024 ticks", LARGE_OPENING, contacts)
+/// So many contacts of the largest table.
+pub fn largest(contacts: usize) -> Workload {
+    Workload::drawn("largest table", Opening::new(256, 1024, 2), contacts)
 }
 
 /// So many contacts of four tables, for reader files.
@@ -97,7 +91,7 @@ pub fn readers(lines: usize) -> Vec<Workload> {
         Workload::drawn("24 animals, 256 ticks", Opening::new(24, 256, 3), lines),
         Workload::drawn("60 animals, 1024 ticks", Opening::new(60, 1024, 4), lines),
         Workload::drawn("128 animals, 512 ticks", SEASON_OPENING, lines),
-        Workload::drawn("256 animals, 1024 ticks", LARGE_OPENING, lines),
+        Workload::drawn("largest table", Opening::new(256, 1024, 2), lines),
     ]
 }
 
