@@ -10,7 +10,7 @@ ghost use Rattle.rules.specs.Layout.{animals, cells_of};
 ghost use Rattle.rules.specs.Adding.{add_refusal, holds, cells_changed, added_cells, add_leaves};
 
 // Whether the contact was known, and how many cells it changed.
-#[derive(Drop)]
+#[derive(Clone, Copy)]
 pub struct Change {
     pub known: bool,
     pub cells: u32,

@@ -49,14 +49,14 @@ fn upper_bound_arrival(rows: &[u32], t: u32) -> usize
 }
 
 // A row of a cell: its number, counted from 0, and the two ends of its interval.
-#[derive(Drop)]
+#[derive(Clone, Copy)]
 pub struct Row {
     pub index: usize,
     pub ends: Ends,
 }
 
 // A row that was looked for, or that there is none.
-#[derive(Drop)]
+#[derive(Clone, Copy)]
 pub enum RowFound {
     At(Row),
     Nothing,

@@ -9,14 +9,14 @@ ghost use Rattle.chains.specs.Found.{lead_of, lowest_of, words_of, collected};
 use tables::Opening;
 
 // Whether a contact leads on, and the next departure; 0 at the goal.
-#[derive(Drop)]
+#[derive(Clone, Copy)]
 struct Lead {
     on: bool,
     next: u32,
 }
 
 // Whether a contact leads to an animal, to which, and the next departure from it; 0 at the goal.
-#[derive(Drop)]
+#[derive(Clone, Copy)]
 struct LowestLead {
     found: bool,
     animal: u32,
@@ -24,7 +24,7 @@ struct LowestLead {
 }
 
 // Whether a chain was found, the number of its contacts, and their words at the front.
-#[derive(Drop)]
+#[derive(Clone, Copy)]
 pub(crate) struct Steps {
     pub(crate) found: bool,
     pub(crate) count: usize,

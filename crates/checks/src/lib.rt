@@ -13,7 +13,7 @@ use rules::Refusal;
 use tables::{Made, Opening};
 
 // The verdict of a group of checks.
-#[derive(Drop)]
+#[derive(Clone, Copy)]
 pub enum Verdict {
     Passed,
     Refused(Refusal),

@@ -6,7 +6,7 @@ ghost use Rattle.rules.specs.Counting.{counted_answer, counted_leaves, counted_t
 use rules::{AddAnswer, Refusal, Tally};
 
 // What a counted add gives: its answer, and the tally afterwards.
-#[derive(Drop)]
+#[derive(Clone, Copy)]
 pub struct Counted {
     pub tally: Tally,
     pub answer: AddAnswer,

@@ -6,7 +6,7 @@ ghost use Rattle.rules.specs.Counting.{counted_removal, counted_removal_leaves, 
 use rules::{DoneAnswer, Refusal, Tally};
 
 // What a counted removal gives: its answer, and the tally afterwards.
-#[derive(Drop)]
+#[derive(Clone, Copy)]
 pub struct Removed {
     pub tally: Tally,
     pub answer: DoneAnswer,

@@ -24,7 +24,7 @@ fn first_arriving(cell: &[u32], i: usize, a: u32) -> usize
 }
 
 // Where an interval goes: in the place of the rows from lo to hi - 1; or nowhere, since a row lies inside it.
-#[derive(Drop)]
+#[derive(Clone, Copy)]
 pub(crate) struct Slot {
     pub met: bool,
     pub lo: usize,

@@ -25,7 +25,7 @@ pub fn cell(body: &[u32], n: usize, size: usize, x: usize, y: usize) -> &[u32]
 }
 
 // A cell: where it begins, and its pair.
-#[derive(Drop)]
+#[derive(Clone, Copy)]
 pub struct CellPlace {
     pub at: usize,
     pub from: u32,

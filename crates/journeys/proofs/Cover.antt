@@ -54,6 +54,7 @@ members_cover f i v = let r = covers-find v in member-covers (f r.0 r.1) r.2
 
 -- The later rows depart and arrive later than the first.
 pub rising-after : {j : Interval} (i : Interval) (c : Cell) → Rising (i ∷ c) → Memᴰ j c → (i.departure < j.departure) × (i.arrival < j.arrival)
+rising-after {j} i [] u m = elim m [ ]
 rising-after {j} i (x ∷ c) u (Memᴰ.head e) = let p = departure-path e in let q = arrival-path e in omega (arith, u.0)
 rising-after {j} i (x ∷ c) u (Memᴰ.tail m) = let r = rising-after x c u.1 m in omega (arith, u.0)
 
@@ -62,6 +63,7 @@ after-covers i c u v = let r = covers-find v in let s = rising-after i c u r.1 i
 
 -- What is covered and lies inside an interval of a rising cell is that interval.
 pub rising-least : {p : Interval} (i : Interval) (c : Cell) → Rising c → Memᴰ i c → Covers p c → Inside p i → p ≡ i
+rising-least {p} i [] u m _ l = elim m [ ]
 rising-least {p} i (x ∷ c) u (Memᴰ.head e) (here h) l =
     let a = departure-path e in
     let b = arrival-path e in

@@ -60,7 +60,7 @@ reach-later {a = a} b h (direct g) = direct (direct-wider a b (omega arith) h g)
 reach-later b h (step u v t g c r) = step u v t g c (reach-later b h r)
 
 -- More contacts reach no less.
-pub reach-map : {T : Cells} {S R : Contacts} {δ x a y b : ℕ} → ((k : Contact) → S k → R k) → Reach T S δ y b x a → Reach T R δ y b x a
+pub reach-map : {T : Cells} {S R : Contacts} {δ y b x a : ℕ} → ((k : Contact) → S k → R k) → Reach T S δ y b x a → Reach T R δ y b x a
 reach-map f (direct g) = direct g
 reach-map f (step u v t g c r) = step u v t g (f (contact u v t) c) (reach-map f r)
 

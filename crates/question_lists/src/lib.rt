@@ -8,7 +8,7 @@ use checks::Verdict;
 use rules::{AskAnswer, ListAnswer, Question, RecordAnswer};
 
 // How many records of a list are answered, none where the table is refused, and what the list answers.
-#[derive(Drop)]
+#[derive(Clone, Copy)]
 pub struct Plan {
     pub count: usize,
     pub answer: ListAnswer,
@@ -79,7 +79,7 @@ pub fn ask_all(table: &[u32], list: &mut [Question]) -> ListAnswer
 pub const MOST_RECORDS: usize = 64;
 
 // An array of records, and what a list of its first records answered.
-#[derive(Drop)]
+#[derive(Clone, Copy)]
 pub struct Records {
     pub list: [Question; MOST_RECORDS],
     pub answer: ListAnswer,

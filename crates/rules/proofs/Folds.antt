@@ -221,6 +221,7 @@ member-map f (a ∷ l) b m = ⊎_elim (λ e. (a, Memᴰ.head refl, e)) (λ q. le
 
 -- A member of the list goes to one of the mapped list.
 pub map-member : {A B : Type 0} (f : A → B) (l : List A) (a : A) → Memᴰ a l → Memᴰ (f a) (map f l)
+map-member {A = A} {B = B} f [] a x' = elim x' [ ]
 map-member f (b ∷ l) a (Memᴰ.head e) = Memᴰ.head (ap f e)
 map-member f (b ∷ l) a (Memᴰ.tail m) = Memᴰ.tail (map-member f l a m)
 

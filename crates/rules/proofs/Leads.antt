@@ -44,6 +44,7 @@ departing a b (i ∷ c) = go (and_outcome (eq_outcome i.arrival b) (le_outcome a
 
 -- In a rising cell an arrival belongs to one departure.
 pub same-arrival : (c : Cell) (b d e : ℕ) → Rising c → Memᴰ (interval d b) c → Memᴰ (interval e b) c → d ≡ e
+same-arrival [] b d e u x3 _ = elim x3 [ ]
 same-arrival (i ∷ c) b d e u (Memᴰ.head p) (Memᴰ.head q) = departure-path p ∙ sym (departure-path q)
 same-arrival (i ∷ c) b d e u (Memᴰ.head p) (Memᴰ.tail m) = let r = rising-after i c u m in let s = arrival-path p in absurd (omega arith)
 same-arrival (i ∷ c) b d e u (Memᴰ.tail m) (Memᴰ.head q) = let r = rising-after i c u m in let s = arrival-path q in absurd (omega arith)

@@ -41,12 +41,15 @@ sorted-one R true a = (tt, tt)
 sorted-one R false a = tt
 
 pub member-one : {A : Type 0} (t : Bool) (a b : A) → Memᴰ b (cond t (a ∷ []) []) → (b ≡ a) × (t ≡ true)
+member-one {A = A} false a b x' = elim x' [ ]
+member-one {A = A} true a b (Memᴰ.tail x6) = elim x6 [ ]
 member-one true a b (Memᴰ.head e) = (e, refl)
 
 -- ---- a strictly sorted list is known by its members
 
 -- The first of a sorted list stands before the others.
 pub sorted_after : {A : Type 0} (R : A → A → Type 0) → ((a b c : A) → R a b → R b c → R a c) → (a b : A) (l : List A) → Sorted R (a ∷ l) → Memᴰ b l → R a b
+sorted_after {A = A} R t a b [] s x'' = elim x'' [ ]
 sorted_after R t a b (c ∷ l) s (Memᴰ.head e) = subst (R a) (sym e) s.0
 sorted_after R t a b (c ∷ l) s (Memᴰ.tail m) = t a c b s.0 (sorted_after R t c b l s.1 m)
 

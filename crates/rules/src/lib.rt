@@ -2,7 +2,7 @@
 // function.
 
 // Why a call is refused. specs/Answers.antt gives each its number of documents 01 and 02.
-#[derive(Drop)]
+#[derive(Clone, Copy)]
 pub enum Refusal {
     AnimalsBeyondLimit,
     TicksBeyondLimit,
@@ -28,14 +28,14 @@ pub enum Refusal {
 }
 
 // What opening answers.
-#[derive(Drop)]
+#[derive(Clone, Copy)]
 pub enum OpenAnswer {
     Opened,
     Refused(Refusal),
 }
 
 // What adding answers: new or known, with the number of cells changed.
-#[derive(Drop)]
+#[derive(Clone, Copy)]
 pub enum AddAnswer {
     New(u32),
     Known(u32),
@@ -43,28 +43,28 @@ pub enum AddAnswer {
 }
 
 // What writing a log answers: the number of words written.
-#[derive(Drop)]
+#[derive(Clone, Copy)]
 pub enum WriteAnswer {
     Written(u32),
     Refused(Refusal),
 }
 
 // What reading a log answers: the number of different contacts.
-#[derive(Drop)]
+#[derive(Clone, Copy)]
 pub enum ReadAnswer {
     Read(u32),
     Refused(Refusal),
 }
 
 // What joining a table into another answers: the number of contacts that were new to it.
-#[derive(Drop)]
+#[derive(Clone, Copy)]
 pub enum JoinAnswer {
     Joined(u32),
     Refused(Refusal),
 }
 
 // A stay record: the animal was in the pen from its first tick to its last.
-#[derive(Drop)]
+#[derive(Clone, Copy)]
 pub struct Stay {
     pub animal: u32,
     pub pen: u32,
@@ -78,7 +78,7 @@ impl Stay {
 }
 
 // What adding the contacts of a list of stays answers: the number of them that were new to the table.
-#[derive(Drop)]
+#[derive(Clone, Copy)]
 pub enum StaysAnswer {
     Added(u32),
     Refused(Refusal),
@@ -86,7 +86,7 @@ pub enum StaysAnswer {
 
 // What a word between the first and the last of a log is: a legal contact, no contact word, or one whose contact is not
 // legal.
-#[derive(Drop)]
+#[derive(Clone, Copy)]
 pub enum LogWord {
     Legal,
     NoContact,
@@ -94,7 +94,7 @@ pub enum LogWord {
 }
 
 // What a yes-or-no question answers.
-#[derive(Drop)]
+#[derive(Clone, Copy)]
 pub enum AskAnswer {
     Yes,
     No,
@@ -102,14 +102,14 @@ pub enum AskAnswer {
 }
 
 // The two ends of an interval.
-#[derive(Drop)]
+#[derive(Clone, Copy)]
 pub struct Ends {
     pub departure: u32,
     pub arrival: u32,
 }
 
 // What the questions for the earliest arrival and the latest departure answer: the whole interval, or that there is none.
-#[derive(Drop)]
+#[derive(Clone, Copy)]
 pub enum IntervalAnswer {
     At(Ends),
     Nothing,
@@ -117,28 +117,28 @@ pub enum IntervalAnswer {
 }
 
 // Whether a set was found.
-#[derive(Drop)]
+#[derive(Clone, Copy)]
 pub enum SetAnswer {
     Found,
     Refused(Refusal),
 }
 
 // A set record: a bit for each animal, 32 to a word, and the number of animals in it.
-#[derive(Drop)]
+#[derive(Clone, Copy)]
 pub struct AnimalSet {
     pub words: [u32; 8],
     pub count: u32,
 }
 
 // What the question for the animals reached answers; on a refusal all words and the count are 0.
-#[derive(Drop)]
+#[derive(Clone, Copy)]
 pub struct ReachedAnswer {
     pub answer: SetAnswer,
     pub set: AnimalSet,
 }
 
 // What the question for a chain answers: the number of its contacts, or that there is no journey.
-#[derive(Drop)]
+#[derive(Clone, Copy)]
 pub enum ChainAnswer {
     Chain(u32),
     NoJourney,
@@ -146,14 +146,14 @@ pub enum ChainAnswer {
 }
 
 // What a call answers that rewrites a whole table and has nothing else to say.
-#[derive(Drop)]
+#[derive(Clone, Copy)]
 pub enum DoneAnswer {
     Done,
     Refused(Refusal),
 }
 
 // The tally of counted calls: how many were new, known and refused, and how many removed a contact.
-#[derive(Drop)]
+#[derive(Clone, Copy)]
 pub struct Tally {
     pub new: u32,
     pub known: u32,
@@ -162,7 +162,7 @@ pub struct Tally {
 }
 
 // The answer in a question record: not asked yet, yes, no, or a refusal's number.
-#[derive(Drop)]
+#[derive(Clone, Copy)]
 pub enum RecordAnswer {
     Unasked,
     Yes,
@@ -171,7 +171,7 @@ pub enum RecordAnswer {
 }
 
 // A question record: whether `to` can have been reached from `from` in the window from `first` to `last`.
-#[derive(Drop)]
+#[derive(Clone, Copy)]
 pub struct Question {
     pub from: u32,
     pub to: u32,
@@ -181,7 +181,7 @@ pub struct Question {
 }
 
 // What a list of question records answers: the number of its records.
-#[derive(Drop)]
+#[derive(Clone, Copy)]
 pub enum ListAnswer {
     Answered(usize),
     Refused(Refusal),

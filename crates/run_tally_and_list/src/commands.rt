@@ -9,7 +9,7 @@ use rules::{Question, RecordAnswer, Tally};
 
 // What the commands are run on: the number of words that are the table, the tally, and an array of records with the number
 // of those that are the list; and whether the commands have ended.
-#[derive(Drop)]
+#[derive(Clone, Copy)]
 pub struct State {
     pub length: usize,
     pub tally: Tally,

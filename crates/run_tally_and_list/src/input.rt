@@ -4,7 +4,7 @@ ghost use Rattle.std.specs.Prelude.{◌≤◌, length};
 use libc::STDIN_FILENO;
 
 // A command: which it is, and its numbers.
-#[derive(Drop)]
+#[derive(Clone, Copy)]
 pub struct Command {
     pub which: u32,
     pub a: u32,
@@ -19,7 +19,7 @@ impl Command {
 }
 
 // What the input has next: a command, part of one, or nothing.
-#[derive(Drop)]
+#[derive(Clone, Copy)]
 pub enum Next {
     Whole(Command),
     CutShort,

@@ -9,7 +9,7 @@ ghost use Rattle.table_text.specs.Lines.{overwrite_front};
 pub use input::word_at;
 
 // A text and its length; behind it the bytes are 0.
-#[derive(Drop)]
+#[derive(Clone, Copy)]
 pub struct Sheet {
     pub text: [u8; Sheet::MOST_TEXT],
     pub length: usize,

@@ -13,7 +13,7 @@ ghost use Rattle.tables.specs.Cells.{most_rows, cells_from_well_formed, all_cell
 use rules::Refusal;
 
 // The opening of a table: how many animals, how many ticks, and the carry time.
-#[derive(Drop)]
+#[derive(Clone, Copy)]
 pub struct Opening {
     pub animals: u32,
     pub ticks: u32,
@@ -21,7 +21,7 @@ pub struct Opening {
 }
 
 // What the constructor of an opening gives.
-#[derive(Drop)]
+#[derive(Clone, Copy)]
 pub enum Made {
     Within(Opening),
     Beyond(Refusal),
