@@ -160,6 +160,7 @@ module _ (f : Interval → ℕ) (t : ℕ) (rows : List ℕ) where
 
 -- A row stands at some index.
 member-at : {i : Interval} (c : Cell) (z : Interval) → Memᴰ i c → (k : ℕ) × (k < length c) × (get_or c k z ≡ i)
+member-at {i = i} [] z x' = elim x' [ ]
 member-at (j ∷ c) z (Memᴰ.head e) = (0, omega arith, sym e)
 member-at (j ∷ c) z (Memᴰ.tail m) = let r = member-at c z m in (suc r.0, omega (arith, r.1), r.2)
 
