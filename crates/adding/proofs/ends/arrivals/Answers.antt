@@ -6,7 +6,6 @@ use native.Mathlib.Omega.{arith}
 use Rattle.adding.proofs.Listed.{filled-start, filled-turn, filled-end}
 use Rattle.adding.proofs.ends.arrivals.Goals as goal
 
-
 pub loop-y-init : goal.loop-y-init
 loop-y-init c = filled-start _ _ _ c.requires.grid.few refl
 

@@ -6,7 +6,6 @@ use native.Mathlib.Omega.{arith}
 use Rattle.adding.proofs.Listed.{filled-start, filled-turn, filled-end}
 use Rattle.adding.proofs.ends.departures.Goals as goal
 
-
 pub loop-x-init : goal.loop-x-init
 loop-x-init c = filled-start _ _ _ c.requires.grid.few refl
 
