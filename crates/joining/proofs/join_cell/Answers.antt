@@ -1,10 +1,8 @@
 -- `join_cell` meets its contract. The loop's invariant: the contacts of the rows passed are added. The measure is how many rows are left.
-use Prim.Native.Nat.{◌-◌}
 use native.Mathlib.Omega.{arith}
 use Rattle.adding_lists.proofs.Adds.{added-kept}
 use Rattle.joining.proofs.Adds.{rows_start, row-addable, row-few, row-turn, rows-added}
 use Rattle.joining.proofs.join_cell.Goals as goal
-
 
 pub loop-i-init : goal.loop-i-init
 loop-i-init c = rows_start _ _ _ c.rows_of.ensures c.requires.carry_le_max_carry.1

@@ -1,11 +1,9 @@
 -- `join_cells` meets its contract. The loop's invariant: the contacts of the cells passed are added. The measure is how many words are left.
-use Prim.Native.Nat.{◌-◌}
 use native.Mathlib.Omega.{arith}
 use Rattle.grid.proofs.Steps.{next-less, at-cell, none_left}
 use Rattle.adding_lists.proofs.Adds.{added-kept}
 use Rattle.joining.proofs.Adds.{cells-start, cell-addable, cell-few, cell-turn, cells-added}
 use Rattle.joining.proofs.join_cells.Goals as goal
-
 
 pub loop-here-init : goal.loop-here-init
 loop-here-init c = cells-start _ _ c.first_cell-here.ensures

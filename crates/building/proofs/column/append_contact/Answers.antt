@@ -1,5 +1,5 @@
 -- `column::append_contact` meets its contract. The loop's invariant: the contact is added for the animals passed.
-use Prim.Native.Nat.{◌+◌, ◌-◌}
+use Prim.Native.Nat.{◌+◌}
 use mathlib.Core.Path.{refl, subst}
 use native.Mathlib.Omega.{arith}
 use Rattle.journeys.specs.Journey.{contact}

@@ -1,6 +1,5 @@
 -- `mark_words::mark_words` meets its contract. The loop's invariant: the contacts of the words passed are marked and counted.
 use mathlib.Core.Path.{refl}
-use Prim.Native.Nat.{◌-◌}
 use native.Mathlib.Omega.{arith}
 use Rattle.building.proofs.MarkingContacts.{words-start, words-next, words-turn, words-few, words-end}
 use Rattle.building.proofs.mark_words.mark_words.Goals as goal
