@@ -5,7 +5,6 @@ use Rattle.rules.specs.Stays.{stays_answer, stays_leaves}
 use Rattle.checks.proofs.Judged.{verdict_refused, verdict_passed}
 use Rattle.engine.proofs.add_stays.Goals as goal
 
-
 pub add_stays-new-requires : goal.add_stays-new-requires
 add_stays-new-requires c = (verdict_passed c.judge_stays-verdict.ensures c.in-Passed.is)
 

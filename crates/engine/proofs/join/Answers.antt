@@ -6,7 +6,6 @@ use Rattle.rules.proofs.Joining.{join-iff}
 use Rattle.checks.proofs.Judged.{verdict_refused, verdict_passed}
 use Rattle.engine.proofs.join.Goals as goal
 
-
 pub join_held-new-requires : goal.join_held-new-requires
 join_held-new-requires c = let j = (join-iff _ _).0 ((verdict_passed c.judge_join-verdict.ensures c.in-Passed.is)) in (j.first, j.second, j.opening)
 

@@ -5,7 +5,6 @@ use Rattle.rules.proofs.Judged.{open_iff}
 use Rattle.checks.proofs.Judged.{verdict_refused, verdict_passed}
 use Rattle.engine.proofs.open_table.Goals as goal
 
-
 pub write_opened-requires : goal.write_opened-requires
 write_opened-requires c = let r = (open_iff c.args.animals c.args.ticks c.args.carry c.args.table.now).0 ((verdict_passed c.judge_open-verdict.ensures c.in-Passed.is)) in record { sizes = r.0; table_len = r.1 }
 

@@ -4,7 +4,6 @@ use Rattle.rules.specs.Reading.{read_answer, read_leaves}
 use Rattle.checks.proofs.Judged.{verdict_refused, verdict_passed}
 use Rattle.engine.proofs.read_log.Goals as goal
 
-
 pub load-different-requires : goal.load-different-requires
 load-different-requires c = (verdict_passed c.judge_read-verdict.ensures c.in-Passed.is)
 

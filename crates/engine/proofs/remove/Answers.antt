@@ -5,7 +5,6 @@ use Rattle.rules.proofs.Removing.{remove_iff}
 use Rattle.checks.proofs.Judged.{verdict_refused, verdict_passed}
 use Rattle.engine.proofs.remove.Goals as goal
 
-
 pub remove_held-requires : goal.remove_held-requires
 remove_held-requires c = let i = (remove_iff _ _ _).0 ((verdict_passed c.judge_remove-verdict.ensures c.in-Passed.is)) in record { valid_table = i.0; table_len = i.1 }
 

@@ -5,7 +5,6 @@ use Rattle.adding_lists.proofs.Adds.{added-kept}
 use Rattle.joining.proofs.Adds.{rows_start, row-addable, row-few, row-turn, rows-added}
 use Rattle.joining.proofs.join_cell.Goals as goal
 
-
 pub loop-i-init : goal.loop-i-init
 loop-i-init c = rows_start _ _ _ c.rows_of.ensures c.requires.carry_le_max_carry.1
 

@@ -6,7 +6,6 @@ use Rattle.adding_lists.proofs.Adds.{added-kept}
 use Rattle.joining.proofs.Adds.{cells-start, cell-addable, cell-few, cell-turn, cells-added}
 use Rattle.joining.proofs.join_cells.Goals as goal
 
-
 pub loop-here-init : goal.loop-here-init
 loop-here-init c = cells-start _ _ c.first_cell-here.ensures
 

@@ -6,7 +6,6 @@ use Rattle.adding_lists.proofs.Adds.{below-start, below-addable, below-few, belo
 use Rattle.stays.specs.Meetings.{meetings_at}
 use Rattle.stays.proofs.add_meetings.Goals as goal
 
-
 pub loop-u-init : goal.loop-u-init
 loop-u-init c = below-start _ _ _
 

@@ -7,7 +7,6 @@ use Rattle.stays.specs.Meetings.{meetings_from}
 use Rattle.stays.proofs.Meetings.{penless_none}
 use Rattle.stays.proofs.add_meetings_from.Goals as goal
 
-
 pub returns-then-pens-u-eq0 : goal.returns-then-pens-u-eq0
 returns-then-pens-u-eq0 c = let r = none-added _ _ (penless_none c.args.pens.now c.args.n c.args.t c.args.u (omega (arith, c.if-pens-u-eq0.true))) in record { value = r.0; table_after = r.1 }
 
