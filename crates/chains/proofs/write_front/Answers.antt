@@ -20,4 +20,4 @@ shape_of-buffer c = c.loop-i.invariant.1
 
 pub returns : goal.returns
 returns c = let e : c.loop-i.i ≡ c.args.count = omega arith in
-    c.loop-i.invariant.2 ∙ ap (λ (k : ℕ). take k c.args.t2 ++ drop k c.args.buffer.now) e
+    c.loop-i.invariant.2 ∙ ap (λ (k : ℕ). take k c.args.from ++ drop k c.args.buffer.now) e

@@ -1,6 +1,5 @@
 -- `ends::departures` meets its contract. The loop's invariant: the array holds the departures of the animals passed.
 -- The measure is how many animals are left.
-use Prim.Native.Nat.{◌-◌}
 use mathlib.Core.Path.{refl}
 use native.Mathlib.Omega.{arith}
 use Rattle.adding.proofs.Listed.{filled-start, filled-turn, filled-end}

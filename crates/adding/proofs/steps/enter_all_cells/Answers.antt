@@ -1,6 +1,6 @@
 -- `steps::enter_all_cells` meets its contract. The loop's invariant: the cells from the animals passed are replaced, and those that changed are
 -- counted. The measure is how many animals are left.
-use Prim.Native.Nat.{ℕ, ◌-◌, ◌*◌, ◌≤◌}
+use Prim.Native.Nat.{ℕ, ◌*◌, ◌≤◌}
 use mathlib.Core.Path.{◌≡◌, ap, ◌∙◌}
 use mathlib.Core.List.{List}
 use native.Mathlib.Nat.{mul-le-mul}

@@ -1,6 +1,6 @@
 -- `steps::enter_cells_from` meets its contract. The loop's invariant: the cells passed are replaced, and those that changed are counted.
 -- The measure is how many cells are left.
-use Prim.Native.Nat.{ℕ, ◌-◌, ◌*◌, ◌≤◌}
+use Prim.Native.Nat.{ℕ, ◌*◌, ◌≤◌}
 use mathlib.Core.Path.{◌≡◌, ap, ◌∙◌}
 use mathlib.Core.List.{List}
 use native.Mathlib.Omega.{arith}
