@@ -3,12 +3,21 @@ use mathlib.Core.Path.{◌∙◌}
 use Rattle.adding_lists.proofs.Adds.{one-accepted, one-leaves, one_known, one-new}
 use Rattle.adding_lists.proofs.add_counting.Goals as goal
 
-
 pub add_contact-change-requires : goal.add_contact-change-requires
 add_contact-change-requires c = one-accepted _ c.requires
 
 pub returns-then-change : goal.returns-then-change
-returns-then-change c = let r = c.add_contact-change.ensures in record { value = one_known _ _ (one-accepted _ c.requires) r.0 c.if-change.true; table_after = r.1.1 ∙ one-leaves _ _ }
+returns-then-change c =
+    let r = c.add_contact-change.ensures in
+    record {
+      value = one_known _ _ (one-accepted _ c.requires) r.known_value c.if-change.true;
+      table_after = r.table_after ∙ one-leaves _ _;
+    }
 
 pub returns : goal.returns
-returns c = let r = c.add_contact-change.ensures in record { value = one-new _ _ (one-accepted _ c.requires) r.0 c.if-change.false; table_after = r.1.1 ∙ one-leaves _ _ }
+returns c =
+    let r = c.add_contact-change.ensures in
+    record {
+      value = one-new _ _ (one-accepted _ c.requires) r.known_value c.if-change.false;
+      table_after = r.table_after ∙ one-leaves _ _;
+    }

@@ -4,7 +4,6 @@ use Rattle.rules.proofs.Groups.{table-group, pair-group, window_group}
 use Rattle.checks.proofs.Judged.{chained}
 use Rattle.call_checks.proofs.judge_chain.Goals as goal
 
-
 pub returns : goal.returns
 unfolding chain_refusal
 returns c = chained (table-group c.args.table.now) _ c.judge_table-whole.ensures

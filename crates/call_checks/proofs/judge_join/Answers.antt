@@ -7,7 +7,6 @@ use Rattle.rules.proofs.Groups.{table-group}
 use Rattle.checks.proofs.Judged.{chained, check_as}
 use Rattle.call_checks.proofs.judge_join.Goals as goal
 
-
 pub returns : goal.returns
 unfolding join_refusal
 returns c = chained (table-group c.args.first.now) _ c.judge_table-whole.ensures

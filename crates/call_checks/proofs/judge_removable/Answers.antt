@@ -6,7 +6,6 @@ use Rattle.rules.proofs.Groups.{one-check, table-group}
 use Rattle.checks.proofs.Judged.{chained}
 use Rattle.call_checks.proofs.judge_removable.Goals as goal
 
-
 pub returns : goal.returns
 returns c = chained (table-group c.args.table.now) _ c.judge_table-whole.ensures
     (chained (one-check (eqb (length c.args.table.now) (length c.args.work.now)) DifferentLengths) _ c.ensure-length.ensures c.judge_contact-behind.ensures c.and_then.ensures)

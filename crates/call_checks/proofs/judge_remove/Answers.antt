@@ -9,7 +9,6 @@ use Rattle.rules.proofs.Removing.{Removable, removal-ahead, removal-group}
 use Rattle.checks.proofs.Judged.{verdict_passed, group_refused, group_passed, check_as}
 use Rattle.call_checks.proofs.judge_remove.Goals as goal
 
-
 pub holds-requires : goal.holds-requires
 holds-requires c = let r = (let it : Removable c.args.table.now c.args.work.now (contact c.args.u c.args.v c.args.t) = (((removal-ahead c.args.table.now c.args.work.now (contact c.args.u c.args.v c.args.t)).behind none tt none).0
     (verdict_passed c.judge_removable-earlier.ensures c.in-Passed.is)).0 in it) in record { valid_table = r.valid; u_bound = (r.legal.from_below, r.legal.to_below, omega (arith, r.legal.to_last, (table-sizes c.args.table.now).τ-high)) }

@@ -1,12 +1,10 @@
 -- `cells::check::all_unused` meets its contract. The loop's invariant: the bits joined so far are zero and the rest is unused exactly when
 -- every word is unused. The measure is what is left of the length.
 use native.Mathlib.Omega.{arith}
-use Prim.Native.Nat.{◌-◌}
 use mathlib.Core.Path.{refl, ◌∙◌}
 use Rattle.words.proofs.Packed.{unused_word-is}
 use Rattle.cell_checks.proofs.Checks.{unused-turn, unused-end}
 use Rattle.cell_checks.proofs.all_unused.Goals as goal
-
 
 pub loop-i-init : goal.loop-i-init
 loop-i-init c = (omega arith, rw unused_word-is refl)

@@ -5,7 +5,6 @@ use Prim.Native.Nat.{◌+◌}
 use Rattle.cell_checks.proofs.Checks.{stopped, passed, cell-kind, cell-many, cell-rows, cell-rest}
 use Rattle.cell_checks.proofs.is_well_formed.Goals as goal
 
-
 pub returns-then-not-is_count : goal.returns-then-not-is_count
 returns-then-not-is_count c = sym (cell-kind _ _ _ _ (omega arith) (stopped c.is_count.ensures c.if-not-is_count.true-raw))
 

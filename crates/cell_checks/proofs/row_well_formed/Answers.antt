@@ -5,7 +5,6 @@ use borrow.Author.Tests.{ltb-true, ltb-false}
 use Rattle.cell_checks.proofs.Checks.{stopped, passed, row-kind, row-departs, row-arrives, row-soon, row_last}
 use Rattle.cell_checks.proofs.row_well_formed.Goals as goal
 
-
 pub returns-then-not-is_interval : goal.returns-then-not-is_interval
 returns-then-not-is_interval c = sym (row-kind _ _ _ _ _ (stopped c.is_interval.ensures c.if-not-is_interval.true-raw))
 

@@ -3,7 +3,6 @@ use mathlib.Core.Path.{sym, ◌∙◌}
 use Rattle.cells.proofs.Rows.{arrival-found}
 use Rattle.cells.proofs.earliest_arrival.Goals as goal
 
-
 pub returns-in-At : goal.returns-in-At
 returns-in-At c = arrival-found _ c.args.t c.requires.rising (sym c.in-At.is ∙ c.first_departing-found.ensures)
 

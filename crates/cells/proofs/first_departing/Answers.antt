@@ -6,7 +6,6 @@ use Rattle.cells.specs.Rows.{row_at, first_departing}
 use Rattle.cells.proofs.Lent.{lent-rising, found-is}
 use Rattle.cells.proofs.first_departing.Goals as goal
 
-
 pub lower_bound_departure-requires : goal.lower_bound_departure-requires
 lower_bound_departure-requires c = lent-rising c.args.cell.now _ c.requires c.rows_end-end.ensures.0
 

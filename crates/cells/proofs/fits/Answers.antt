@@ -3,7 +3,6 @@ use native.Mathlib.Omega.{arith}
 use Rattle.cells.proofs.Fitting.{fits-departing, fits-before}
 use Rattle.cells.proofs.fits.Goals as goal
 
-
 pub returns-then-first-departure : goal.returns-then-first-departure
 returns-then-first-departure c = fits-departing c.args.carry c.args.departure c.args.arrival c.args.first c.args.last (omega arith)
 

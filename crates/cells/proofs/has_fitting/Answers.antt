@@ -4,7 +4,6 @@ use Prim.Native.Nat.{◌+◌}
 use Rattle.cells.proofs.Rows.{inside_found}
 use Rattle.cells.proofs.has_fitting.Goals as goal
 
-
 pub returns-in-At : goal.returns-in-At
 returns-in-At c = c.fits.ensures ∙ (sym (inside_found c.args.first (c.args.last + c.args.carry) _ c.requires.rising (sym c.in-At.is ∙ c.first_departing-found.ensures)))
 

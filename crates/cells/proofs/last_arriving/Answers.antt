@@ -8,7 +8,6 @@ use Rattle.cells.proofs.Lent.{lent-rising, found-is}
 use Rattle.cells.proofs.Rows.{before-is}
 use Rattle.cells.proofs.last_arriving.Goals as goal
 
-
 pub upper_bound_arrival-front-requires : goal.upper_bound_arrival-front-requires
 upper_bound_arrival-front-requires c = lent-rising c.args.cell.now _ c.requires c.rows_end-end.ensures.0
 

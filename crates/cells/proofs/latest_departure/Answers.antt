@@ -3,7 +3,6 @@ use mathlib.Core.Path.{sym, ◌∙◌}
 use Rattle.cells.proofs.Rows.{departure-found}
 use Rattle.cells.proofs.latest_departure.Goals as goal
 
-
 pub returns-in-At : goal.returns-in-At
 returns-in-At c = departure-found _ c.args.t c.requires.rising (sym c.in-At.is ∙ c.last_arriving-found.ensures)
 

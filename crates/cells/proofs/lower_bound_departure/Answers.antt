@@ -1,10 +1,8 @@
 -- `cells::lower_bound_departure` meets its contract: it is a search by halves for the departure. The measure is what is left between `lo` and `hi`.
 use native.Mathlib.Omega.{arith}
-use Prim.Native.Nat.{◌-◌}
 use Rattle.cells.specs.Stored.{departure_end}
 use Rattle.cells.proofs.Search.{departure-follows, halves_start, halves_behind, halves_front, halves_end}
 use Rattle.cells.proofs.lower_bound_departure.Goals as goal
-
 
 pub loop-lo-init : goal.loop-lo-init
 loop-lo-init c = halves_start departure_end _ _

@@ -3,7 +3,6 @@ use native.Mathlib.Omega.{arith}
 use Rattle.cells.proofs.Rows.{row-missing, row_read}
 use Rattle.cells.proofs.row_at.Goals as goal
 
-
 pub bounds-cell-0 : goal.bounds-cell-0
 bounds-cell-0 c = omega (arith, c.requires.within)
 

@@ -3,7 +3,6 @@ use mathlib.Core.Path.{sym, ◌∙◌}
 use Rattle.cells.proofs.Rows.{stands-found, same-departing, same-apart}
 use Rattle.cells.proofs.stands.Goals as goal
 
-
 pub returns-then-d-row : goal.returns-then-d-row
 returns-then-d-row c = same-departing c.args.d c.args.a c.in-At.row.ends.departure c.in-At.row.ends.arrival c.if-d-row.true
     ∙ (sym (stands-found c.args.d c.args.a _ c.requires.rising (sym c.in-At.is ∙ c.first_departing-found.ensures)))

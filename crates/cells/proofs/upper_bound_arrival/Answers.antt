@@ -1,10 +1,8 @@
 -- `cells::upper_bound_arrival` meets its contract: it is a search by halves for the arrival. The measure is what is left between `least` and `most`.
 use native.Mathlib.Omega.{arith}
-use Prim.Native.Nat.{◌-◌}
 use Rattle.cells.specs.Stored.{arrival_end}
 use Rattle.cells.proofs.Search.{arrival-follows, halves_start, halves_behind, halves_front, halves_end}
 use Rattle.cells.proofs.upper_bound_arrival.Goals as goal
-
 
 pub loop-least-init : goal.loop-least-init
 loop-least-init c = halves_start arrival_end _ _

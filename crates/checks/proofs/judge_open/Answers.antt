@@ -2,7 +2,6 @@
 use Rattle.checks.proofs.Opened.{open_beyond, within-limits, open_within}
 use Rattle.checks.proofs.judge_open.Goals as goal
 
-
 pub table_length-requires : goal.table_length-requires
 table_length-requires c = within-limits c.args.animals c.args.ticks c.args.carry c.new-made.ensures _ c.in-Within.is
 

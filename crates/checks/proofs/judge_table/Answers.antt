@@ -4,7 +4,6 @@ use Rattle.checks.specs.Verdicts.{verdict_of}
 use Rattle.cell_checks.proofs.Checks.{stopped, passed}
 use Rattle.checks.proofs.judge_table.Goals as goal
 
-
 pub returns-then-not-is_open : goal.returns-then-not-is_open
 unfolding verdict_of
 returns-then-not-is_open c = rw (stopped c.is_open.ensures c.if-not-is_open.true-raw) refl

@@ -6,7 +6,6 @@ use Rattle.rules.proofs.Asked.{valid-behind}
 use Rattle.checks.proofs.Judged.{verdict_refused, verdict_passed}
 use Rattle.claims.proofs.claimed.Goals as goal
 
-
 pub form_journey-requires : goal.form_journey-requires
 unfolding reach_refusal
 form_journey-requires c = (valid-behind c.args.table.now ((verdict_passed c.judge_reach-verdict.ensures c.in-Passed.is))).0

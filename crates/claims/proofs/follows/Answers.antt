@@ -1,12 +1,10 @@
 -- `follows` meets its contract. The loop's invariant: what is left of the test equals the whole test. The measure is how many words are
 -- left.
 use native.Mathlib.Omega.{arith}
-use Prim.Native.Nat.{◌-◌}
 use mathlib.Core.Path.{refl}
 use Rattle.rules.proofs.Sound.{opens-length}
 use Rattle.claims.proofs.Words.{follows-turn, follows-stop, follows-end}
 use Rattle.claims.proofs.follows.Goals as goal
-
 
 -- ---- needs
 pub bounds-table-0 : goal.bounds-table-0
@@ -20,10 +18,10 @@ returns-then-not-goes_on c = follows-stop c.args.table.now c.args.v c.args.first
 
 pub loop-i-preserved : goal.loop-i-preserved
 loop-i-preserved c = (
-      omega arith,
-      follows-turn c.args.table.now c.args.v c.args.first c.args.last c.loop-i.x c.loop-i.a c.args.chain.now c.loop-i.i c.loop-i.invariant.1 _ _ _ (omega arith)
-          c.goes_on.ensures c.if-not-goes_on.false-raw c.to_of-x.ensures c.tick_of.ensures c.carry_of-carry.ensures,
-    )
+  omega arith,
+  follows-turn c.args.table.now c.args.v c.args.first c.args.last c.loop-i.x c.loop-i.a c.args.chain.now c.loop-i.i c.loop-i.invariant.1 _ _ _ (omega arith)
+      c.goes_on.ensures c.if-not-goes_on.false-raw c.to_of-x.ensures c.tick_of.ensures c.carry_of-carry.ensures,
+)
 
 pub returns : goal.returns
 returns c = follows-end c.args.table.now c.args.v c.args.first c.args.last c.loop-i.x c.loop-i.a c.args.chain.now c.loop-i.i c.loop-i.invariant.1 (omega arith)

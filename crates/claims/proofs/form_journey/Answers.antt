@@ -3,7 +3,6 @@ use native.Mathlib.Omega.{arith}
 use Rattle.claims.proofs.Words.{forms_none, forms_some}
 use Rattle.claims.proofs.form_journey.Goals as goal
 
-
 pub returns-then-chain-eq0 : goal.returns-then-chain-eq0
 returns-then-chain-eq0 c = forms_none c.args.table.now c.args.v c.args.first c.args.last c.args.u 0 c.args.chain.now (omega arith)
 

@@ -6,7 +6,6 @@ use Rattle.cells.proofs.Lent.{stored-in_use}
 use Rattle.entering.proofs.Entered.{same, goes, ready, entered}
 use Rattle.entering.proofs.enters.Goals as goal
 
-
 pub find-slot-requires : goal.find-slot-requires
 find-slot-requires c = stored-in_use c.requires.stored
 
@@ -46,5 +45,8 @@ count_word-requires c = let g = (let g = c.find-slot.ensures.lo_value c.if-slot.
 pub returns : goal.returns
 returns c = let g = (let g = c.find-slot.ensures.lo_value c.if-slot.false in
     goes ((c.args.cell.now)) c.args.d c.args.a c.rows_of-n.result c.find-slot.result.lo c.find-slot.result.hi c.requires.stored c.rows_of-n.ensures
-    c.requires.le_d.0 c.requires.le_d.1 (sym c.find-slot.ensures.met_value ∙ c.if-slot.false) g.0 g.1) in record { value = ap not (sym g.new); cell_after = entered ((c.args.cell.now)) _ _ _ _ _ c.requires.stored c.rows_of-n.ensures g _ _ _ c.interval_word-w.ensures c.replace.ensures
-          c.count_word.ensures }
+    c.requires.le_d.0 c.requires.le_d.1 (sym c.find-slot.ensures.met_value ∙ c.if-slot.false) g.0 g.1) in record {
+      value = ap not (sym g.new);
+      cell_after = entered ((c.args.cell.now)) _ _ _ _ _ c.requires.stored c.rows_of-n.ensures g _ _ _ c.interval_word-w.ensures c.replace.ensures
+          c.count_word.ensures;
+    }

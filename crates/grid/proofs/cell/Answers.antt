@@ -3,7 +3,6 @@ use native.Mathlib.Omega.{arith}
 use Rattle.grid.proofs.Places.{place, cell-lent}
 use Rattle.grid.proofs.cell.Goals as goal
 
-
 pub overflow_add-result : goal.overflow_add-result
 overflow_add-result c = let p = (place c.args.n c.args.size c.args.body.now c.args.x c.args.y c.requires.n_le_max_animals.0 c.requires.n_le_max_animals.2 c.requires.x_lt_n.0 c.requires.x_lt_n.1) in omega arith
 

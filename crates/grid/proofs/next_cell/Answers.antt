@@ -2,7 +2,6 @@
 use Rattle.grid.proofs.Steps.{next-on, next-anew}
 use Rattle.grid.proofs.next_cell.Goals as goal
 
-
 pub returns-then-to-n : goal.returns-then-to-n
 returns-then-to-n c = next-on _ _ _ c.if-to-n.true
 

@@ -3,7 +3,6 @@ use native.Mathlib.Omega.{arith}
 use Rattle.grid.proofs.Places.{start-bound}
 use Rattle.grid.proofs.start.Goals as goal
 
-
 pub overflow_mul-result : goal.overflow_mul-result
 overflow_mul-result c = omega (arith, (start-bound c.args.n c.args.size c.args.x c.args.y c.requires.n_le_max_animals.0 c.requires.n_le_max_animals.1 c.requires.x_lt_n.0 c.requires.x_lt_n.1))
 

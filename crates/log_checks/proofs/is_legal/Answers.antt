@@ -5,7 +5,6 @@ use lib.Dec.{leb, eqb}
 use Rattle.rules.specs.Reading.{is_legal}
 use Rattle.log_checks.proofs.is_legal.Goals as goal
 
-
 pub returns : goal.returns
 unfolding is_legal
 returns c = c.both-2.ensures

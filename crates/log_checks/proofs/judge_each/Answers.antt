@@ -1,10 +1,8 @@
 -- `judge_each` meets its contract. The loop's invariant: the words passed are legal. The measure is how many are left.
 use mathlib.Core.Path.{refl}
-use Prim.Native.Nat.{◌-◌}
 use native.Mathlib.Omega.{arith}
 use Rattle.log_checks.proofs.Logged.{judging_start, judging_no_contact, judging_not_legal, judging_turn, judging_end}
 use Rattle.log_checks.proofs.judge_each.Goals as goal
-
 
 pub loop-i-init : goal.loop-i-init
 loop-i-init c = (refl, judging_start _ _ _)

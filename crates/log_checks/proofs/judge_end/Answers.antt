@@ -10,7 +10,6 @@ use Rattle.rules.specs.Reading.{is_true_end}
 use Rattle.checks.proofs.Judged.{check_as}
 use Rattle.log_checks.proofs.judge_end.Goals as goal
 
-
 pub returns : goal.returns
 unfolding is_true_end
 returns c = let w = c.last_word-w.ensures in

@@ -7,7 +7,6 @@ use Rattle.rules.specs.Layout.{table_length}
 use Rattle.checks.proofs.Judged.{check_as, animals-read, ticks-read}
 use Rattle.log_checks.proofs.judge_length.Goals as goal
 
-
 pub returns : goal.returns
 returns c = let w = c.first_word.ensures in
     check_as WrongLength c.ensure.ensures

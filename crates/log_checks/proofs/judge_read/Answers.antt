@@ -9,7 +9,6 @@ use Rattle.checks.proofs.Judged.{chained, check_as}
 use Rattle.log_checks.proofs.Logged.{words-group}
 use Rattle.log_checks.proofs.judge_read.Goals as goal
 
-
 pub returns : goal.returns
 unfolding read_refusal
 returns c = chained (one-check (is_log c.args.log.now) NotALog) _ (check_as NotALog c.ensure-shape.ensures c.is_log.ensures)

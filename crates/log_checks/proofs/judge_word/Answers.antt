@@ -2,7 +2,6 @@
 use Rattle.log_checks.proofs.Logged.{word-other, word-legal, word-not_legal}
 use Rattle.log_checks.proofs.judge_word.Goals as goal
 
-
 pub returns-then-not-is_contact : goal.returns-then-not-is_contact
 returns-then-not-is_contact c = word-other c.args.animals c.args.ticks c.args.w c.is_contact.ensures c.if-not-is_contact.true-raw
 

@@ -9,7 +9,6 @@ use Rattle.checks.specs.Verdicts.{verdict_of}
 use Rattle.checks.proofs.Judged.{animals-read, ticks-read}
 use Rattle.log_checks.proofs.judge_words.Goals as goal
 
-
 pub returns : goal.returns
 returns c = let L = c.args.log.now in
     let w = c.first_word-w.ensures in

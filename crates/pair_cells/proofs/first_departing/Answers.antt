@@ -4,7 +4,6 @@ use Rattle.cells.proofs.Lent.{stored-in_use}
 use Rattle.tables.proofs.Stored.{cell-read, lent-stored}
 use Rattle.pair_cells.proofs.first_departing.Goals as goal
 
-
 pub first_departing-requires : goal.first_departing-requires
 first_departing-requires c = stored-in_use (lent-stored c.args.table.now c.requires.valid_table c.args.u c.args.v c.requires.u_bound.0 c.requires.u_bound.1 c.cell.ensures)
 

@@ -4,7 +4,6 @@ use Rattle.rules.proofs.Held.{holds_at}
 use Rattle.rules.proofs.Sound.{opens-length}
 use Rattle.pair_cells.proofs.holds.Goals as goal
 
-
 pub bounds-table-0 : goal.bounds-table-0
 bounds-table-0 c = omega (arith, opens-length c.args.table.now c.requires.valid_table.opens)
 

@@ -11,7 +11,6 @@ use Rattle.cells.proofs.Lent.{stored-in_use}
 use Rattle.tables.proofs.Stored.{cell-read, lent-stored}
 use Rattle.pair_cells.proofs.reaches.Goals as goal
 
-
 -- ---- needs
 pub bounds-table-0 : goal.bounds-table-0
 bounds-table-0 c = omega (arith, opens-length c.args.table.now c.requires.valid_table.opens)

@@ -5,7 +5,6 @@ use Rattle.cells.proofs.Lent.{stored-in_use}
 use Rattle.tables.proofs.Stored.{cell-read, lent-stored}
 use Rattle.pair_cells.proofs.stands.Goals as goal
 
-
 pub stands-requires : goal.stands-requires
 stands-requires c = stored-in_use (lent-stored c.args.table.now c.requires.valid_table c.args.u c.args.v c.requires.u_bound.0 c.requires.u_bound.1 c.cell.ensures)
 

@@ -5,7 +5,6 @@ use lib.Dec.{leb}
 use Rattle.rules.specs.Stays.{is_stay}
 use Rattle.stay_checks.proofs.is_stay.Goals as goal
 
-
 pub returns : goal.returns
 unfolding is_stay
 returns c = let s = c.args.stay in

@@ -1,10 +1,8 @@
 -- `judge_each` meets its contract. The loop's invariant: the records passed are stays. The measure is how many are left.
-use Prim.Native.Nat.{◌-◌}
 use native.Mathlib.Omega.{arith}
 use borrow.Author.Tests.{not-true, not-false}
 use Rattle.stay_checks.proofs.Judged.{judging_start, judging_stopped, judging_turn, judging_end}
 use Rattle.stay_checks.proofs.judge_each.Goals as goal
-
 
 pub loop-i-init : goal.loop-i-init
 loop-i-init c = judging_start _ _ _

@@ -9,7 +9,6 @@ use Rattle.checks.proofs.Judged.{chained, animals-read, ticks-read}
 use Rattle.stay_checks.proofs.Judged.{each-group}
 use Rattle.stay_checks.proofs.judge_records.Goals as goal
 
-
 pub returns : goal.returns
 returns c = let T = c.args.table.now in
     let W = c.args.stays.now in

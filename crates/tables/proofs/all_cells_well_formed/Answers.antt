@@ -1,7 +1,7 @@
 -- `all_cells_well_formed` meets its contract. The loop's invariant: the cells from the animals so far are well formed. The measure is the number
 -- of animals left.
 use native.Mathlib.Omega.{arith}
-use Prim.Native.Nat.{◌+◌, ◌-◌, ◌*◌, ◌≤◌}
+use Prim.Native.Nat.{◌+◌, ◌*◌, ◌≤◌}
 use native.Mathlib.Nat.{mul-le-mul}
 use Rattle.grid.proofs.Places.{lent_length}
 use Rattle.grid.proofs.Reading.{through-start, through-room, through-lent, through-turn, tested-start, tested-turn, tested-stop, tested-end}
@@ -9,7 +9,6 @@ use Rattle.tables.specs.Cells.{all_cells_well_formed}
 use Rattle.tables.proofs.Cells.{from-tested}
 use Rattle.rules.specs.Limits.{max_cell_words}
 use Rattle.tables.proofs.all_cells_well_formed.Goals as goal
-
 
 pub overflow_mul-width : goal.overflow_mul-width
 overflow_mul-width c = let h : c.args.ticks + 1 ≤ max_cell_words = omega arith in

@@ -7,7 +7,6 @@ use Rattle.rules.proofs.Sound.{opens-length}
 use Rattle.tables.proofs.Stored.{lent-cells, lent-cell}
 use Rattle.tables.proofs.cell.Goals as goal
 
-
 pub bounds-table-0 : goal.bounds-table-0
 bounds-table-0 c = omega (arith, (let it : 1 ≤ length c.args.table.now = omega (arith, opens-length c.args.table.now c.requires.valid_table.opens) in it))
 

@@ -1,12 +1,11 @@
 -- `cells_from_well_formed` meets its contract. The loop's invariant: the cells so far are well formed. The measure is the number of cells left.
 use native.Mathlib.Omega.{arith}
-use Prim.Native.Nat.{◌+◌, ◌-◌}
+use Prim.Native.Nat.{◌+◌}
 use Rattle.grid.proofs.Places.{lent_length}
 use Rattle.grid.proofs.Reading.{through-start, through-room, through-lent, through-turn, tested-start, tested-turn, tested-stop, tested-end}
 use Rattle.tables.specs.Cells.{cells_from_well_formed}
 use Rattle.tables.proofs.Cells.{cell-tested, most-bound}
 use Rattle.tables.proofs.cells_from_well_formed.Goals as goal
-
 
 pub loop-v-init : goal.loop-v-init
 loop-v-init c = (through-start _ _, tested-start _ _)
@@ -30,9 +29,11 @@ returns-then-not-is_well_formed c = tested-stop c.loop-v.invariant.1 c.loop-v-te
     c.most_rows-most.ensures (through-lent c.loop-v.invariant.0 c.args.cells.now) c.is_well_formed.ensures)) c.if-not-is_well_formed.true-raw
 
 pub loop-v-preserved : goal.loop-v-preserved
-loop-v-preserved c = let i = c.loop-v.invariant in
-    (through-turn i.0 c.loop-v-test.true, tested-turn i.1 c.loop-v-test.true ((cell-tested c.args.ticks c.args.carry c.args.u c.loop-v.v c.most_rows-most.result c.args.cells.now _
-    c.most_rows-most.ensures (through-lent c.loop-v.invariant.0 c.args.cells.now) c.is_well_formed.ensures)) c.if-not-is_well_formed.false-raw)
+loop-v-preserved c = let i = c.loop-v.invariant in (
+  through-turn i.0 c.loop-v-test.true,
+  tested-turn i.1 c.loop-v-test.true ((cell-tested c.args.ticks c.args.carry c.args.u c.loop-v.v c.most_rows-most.result c.args.cells.now _
+      c.most_rows-most.ensures (through-lent c.loop-v.invariant.0 c.args.cells.now) c.is_well_formed.ensures)) c.if-not-is_well_formed.false-raw,
+)
 
 pub returns : goal.returns
 unfolding cells_from_well_formed

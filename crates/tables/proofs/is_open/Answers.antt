@@ -6,7 +6,6 @@ use Rattle.cell_checks.proofs.Checks.{stopped, passed}
 use Rattle.tables.proofs.Openings.{open_none, open_kind, open_length}
 use Rattle.tables.proofs.is_open.Goals as goal
 
-
 pub returns-then-table-eq0 : goal.returns-then-table-eq0
 returns-then-table-eq0 c = open_none _ (omega arith)
 

@@ -5,7 +5,6 @@ use borrow.Author.Tests.{eq-eqb, ne_eqb}
 use Rattle.tables.specs.Cells.{most_rows}
 use Rattle.tables.proofs.most_rows.Goals as goal
 
-
 pub returns-then-u-v : goal.returns-then-u-v
 unfolding most_rows
 returns-then-u-v c = rw (eq-eqb c.args.u c.args.v (omega arith)) refl

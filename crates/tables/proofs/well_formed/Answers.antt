@@ -8,7 +8,6 @@ use Rattle.rules.proofs.Sound.{opens-length}
 use Rattle.tables.proofs.Cells.{cells-inside, cells-formed}
 use Rattle.tables.proofs.well_formed.Goals as goal
 
-
 pub bounds-table-0 : goal.bounds-table-0
 bounds-table-0 c = omega (arith, (let it : 1 ≤ length c.args.table.now = omega (arith, opens-length c.args.table.now c.requires) in it))
 

@@ -1,12 +1,11 @@
 -- `write_cells` meets its contract. The loop's invariant: the first k cells are empty. The measure is the number of cells left.
 use native.Mathlib.Omega.{arith}
-use Prim.Native.Nat.{◌+◌, ◌-◌, ◌≤◌}
+use Prim.Native.Nat.{◌+◌, ◌≤◌}
 use lib.ListN.{length}
 use Rattle.grid.proofs.Places.{lent_length}
 use Rattle.grid.proofs.Walk.{walk_start, walk_room, walk_turn, walk_end}
 use Rattle.tables.specs.Cells.{emptied}
 use Rattle.tables.proofs.write_cells.Goals as goal
-
 
 pub loop-k-init : goal.loop-k-init
 loop-k-init c = walk_start _ _ _ _

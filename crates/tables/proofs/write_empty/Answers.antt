@@ -8,7 +8,6 @@ use Rattle.rules.specs.Layout.{cell_words}
 use Rattle.tables.proofs.Cells.{emptied-start, emptied-turn, emptied-end}
 use Rattle.tables.proofs.write_empty.Goals as goal
 
-
 pub loop-i-init : goal.loop-i-init
 loop-i-init c = emptied-start _ c.count_word.result c.args.cell.now (omega (arith, (length-set c.args.cell.now 0 c.count_word.result))) c.count_word.ensures
 

@@ -8,7 +8,6 @@ use Rattle.grid.proofs.Places.{rest-length}
 use Rattle.tables.proofs.Cells.{opened-table}
 use Rattle.tables.proofs.write_opened.Goals as goal
 
-
 pub slice_bounds-write_cells-count : goal.slice_bounds-write_cells-count
 slice_bounds-write_cells-count c = omega (arith, (length-set c.args.table.now 0 c.opening_word.result))
 

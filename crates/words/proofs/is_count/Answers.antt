@@ -5,6 +5,5 @@ use Rattle.words.specs.Words.{count_layout}
 use Rattle.words.proofs.Fields.{is_of-test}
 use Rattle.words.proofs.is_count.Goals as goal
 
-
 pub returns : goal.returns
 returns c = is_of-test count_layout 11 _ _ _ (refl, refl) (eqb→eq _ _ tt) (eqb→eq _ _ tt)

@@ -5,6 +5,5 @@ use Rattle.words.specs.Words.{end_layout}
 use Rattle.words.proofs.Fields.{is_of-test}
 use Rattle.words.proofs.is_end.Goals as goal
 
-
 pub returns : goal.returns
 returns c = is_of-test end_layout 26 _ _ _ (refl, refl) (eqb→eq _ _ tt) (eqb→eq _ _ tt)

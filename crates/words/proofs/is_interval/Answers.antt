@@ -5,6 +5,5 @@ use Rattle.words.specs.Words.{interval_layout}
 use Rattle.words.proofs.Fields.{is_of-test}
 use Rattle.words.proofs.is_interval.Goals as goal
 
-
 pub returns : goal.returns
 returns c = is_of-test interval_layout 22 _ _ _ (refl, (refl, refl)) (eqb→eq _ _ tt) (eqb→eq _ _ tt)

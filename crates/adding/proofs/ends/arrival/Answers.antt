@@ -4,7 +4,6 @@ use Rattle.cells.proofs.Lent.{stored-in_use}
 use Rattle.adding.proofs.Ticks.{arriving-self, arriving-other}
 use Rattle.adding.proofs.ends.arrival.Goals as goal
 
-
 pub returns-then-y-v : goal.returns-then-y-v
 returns-then-y-v c = arriving-self _ _ _ _ _ _ c.if-y-v.true
 

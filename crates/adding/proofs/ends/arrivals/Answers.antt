@@ -1,11 +1,9 @@
 -- `ends::arrivals` meets its contract. The loop's invariant: the array holds the arrivals of the animals passed.
 -- The measure is how many animals are left.
-use Prim.Native.Nat.{◌-◌}
 use mathlib.Core.Path.{refl}
 use native.Mathlib.Omega.{arith}
 use Rattle.adding.proofs.Listed.{filled-start, filled-turn, filled-end}
 use Rattle.adding.proofs.ends.arrivals.Goals as goal
-
 
 pub loop-y-init : goal.loop-y-init
 loop-y-init c = filled-start _ _ _ c.requires.grid.few refl

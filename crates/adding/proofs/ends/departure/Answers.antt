@@ -4,7 +4,6 @@ use Rattle.cells.proofs.Lent.{stored-in_use}
 use Rattle.adding.proofs.Ticks.{departing-self, departing-other}
 use Rattle.adding.proofs.ends.departure.Goals as goal
 
-
 pub returns-then-x-u : goal.returns-then-x-u
 returns-then-x-u c = departing-self _ _ _ _ _ _ c.if-x-u.true
 

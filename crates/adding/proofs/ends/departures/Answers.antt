@@ -1,11 +1,9 @@
 -- `ends::departures` meets its contract. The loop's invariant: the array holds the departures of the animals passed.
 -- The measure is how many animals are left.
-use Prim.Native.Nat.{◌-◌}
 use mathlib.Core.Path.{refl}
 use native.Mathlib.Omega.{arith}
 use Rattle.adding.proofs.Listed.{filled-start, filled-turn, filled-end}
 use Rattle.adding.proofs.ends.departures.Goals as goal
-
 
 pub loop-x-init : goal.loop-x-init
 loop-x-init c = filled-start _ _ _ c.requires.grid.few refl

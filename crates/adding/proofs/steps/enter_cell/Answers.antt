@@ -4,7 +4,6 @@ use mathlib.Core.Bool.{Bool, cond}
 use Rattle.adding.proofs.Turns.{diagonal-turn, idle_turn, enter-turn}
 use Rattle.adding.proofs.steps.enter_cell.Goals as goal
 
-
 pub returns-then-x-y : goal.returns-then-x-y
 returns-then-x-y c = let t = diagonal-turn c.args.x c.args.y c.args.d c.args.a c.args.cell.now c.if-x-y.true in record { value = t.count; cell_after = t.words }
 

@@ -1,12 +1,11 @@
 -- `sets::collect` meets its contract. The loop's invariant: the set holds the animals reached among those passed. The measure is how many
 -- animals are left.
 use mathlib.Core.Path.{subst}
-use Prim.Native.Nat.{ℕ, ◌-◌, ◌≤◌, ◌<◌}
+use Prim.Native.Nat.{ℕ, ◌≤◌, ◌<◌}
 use native.Mathlib.Omega.{arith}
 use Rattle.rules.proofs.Sound.{opens-length}
 use Rattle.animal_loops.proofs.Collecting.{collected-start, collected-words, collected-count}
 use Rattle.animal_loops.proofs.sets.collect.Goals as goal
-
 
 pub bounds-table-0 : goal.bounds-table-0
 bounds-table-0 c = omega (arith, opens-length c.args.table.now c.requires.valid_table.opens)

@@ -6,7 +6,6 @@ use lib.ListN.{get_or, set}
 use Rattle.animal_loops.proofs.Collecting.{shifted, bit-fits}
 use Rattle.animal_loops.proofs.sets.with_animal.Goals as goal
 
-
 pub overflow_add-marks : goal.overflow_add-marks
 overflow_add-marks c = record { fits = bit-fits (c.args.i % 32) (get_or c.args.before.words (c.args.i / 32) 0) (omega arith) c.requires.1 }
 

@@ -1,13 +1,10 @@
 -- `walks::connects` meets its contract. The loop's invariant: the animals passed join all others. The measure is how many animals are
 -- left.
-use Prim.Native.Nat.{◌-◌}
 use native.Mathlib.Omega.{arith}
 use Rattle.rules.proofs.Sound.{opens-length}
-use Rattle.animal_loops.specs.Walks.{joins_all}
 use Rattle.grid.proofs.Reading.{tested-start, tested-turn, tested-stop, tested-end}
 use Rattle.animal_loops.proofs.Joined.{all-connected}
 use Rattle.animal_loops.proofs.walks.connects.Goals as goal
-
 
 pub bounds-table-0 : goal.bounds-table-0
 bounds-table-0 c = omega (arith, opens-length c.args.table.now c.requires.opens)

@@ -1,13 +1,11 @@
 -- `walks::joins_all` meets its contract. The loop's invariant: u joins the animals passed. The measure is how many animals are left.
 --
 use mathlib.Core.Path.{subst}
-use Prim.Native.Nat.{ℕ, ◌-◌, ◌<◌}
+use Prim.Native.Nat.{ℕ, ◌<◌}
 use native.Mathlib.Omega.{arith}
-use Rattle.animal_loops.specs.Walks.{joins}
 use Rattle.grid.proofs.Reading.{tested-start, tested-turn, tested-stop, tested-end}
 use Rattle.animal_loops.proofs.Joined.{all-joined}
 use Rattle.animal_loops.proofs.walks.joins_all.Goals as goal
-
 
 pub loop-v-init : goal.loop-v-init
 loop-v-init c = tested-start _ _

@@ -4,7 +4,6 @@ use native.Mathlib.Omega.{arith}
 use Rattle.building.proofs.RowsInUse.{counted, searchable, latest-empty, latest-last}
 use Rattle.building.proofs.cell.departure_by.Goals as goal
 
-
 -- ---- the needs
 pub returns-then-end-eq0 : goal.returns-then-end-eq0
 returns-then-end-eq0 c = latest-empty _ ((counted c.requires c.rows_of-end.ensures)) c.if-end-eq0.true

@@ -7,7 +7,6 @@ use Rattle.building.specs.Stage.{AddsForAnimals}
 use Rattle.building.proofs.AnimalByAnimal.{adds_none, adds_then, partly_added_on}
 use Rattle.building.proofs.column.append_contact.Goals as goal
 
-
 -- ---- the needs
 pub loop-x-init : goal.loop-x-init
 loop-x-init c = (omega arith, adds_none _ _ _ ((contact c.args.u c.args.v c.args.t)) 0 _, refl)
@@ -17,10 +16,10 @@ append_for-requires c = record { partly_added = partly_added_on _ _ _ ((contact 
 
 pub loop-x-preserved : goal.loop-x-preserved
 loop-x-preserved c = (
-      omega arith,
-      adds_then _ _ _ ((contact c.args.u c.args.v c.args.t)) 0 c.loop-x.x (c.loop-x.x + 1) _ _ _ c.loop-x.invariant.1 c.append_for.ensures,
-      omega arith,
-    )
+  omega arith,
+  adds_then _ _ _ ((contact c.args.u c.args.v c.args.t)) 0 c.loop-x.x (c.loop-x.x + 1) _ _ _ c.loop-x.invariant.1 c.append_for.ensures,
+  omega arith,
+)
 
 pub shape_of-body : goal.shape_of-body
 shape_of-body c = c.loop-x.invariant.2

@@ -7,7 +7,6 @@ use Rattle.grid.proofs.Places.{cell-lent}
 use Rattle.building.proofs.AnimalByAnimal.{source_cell, goal_cell, goal_inside, for_goal, for_no_departure, can_put, for_given_back}
 use Rattle.building.proofs.column.append_for.Goals as goal
 
-
 pub returns-then-x-v : goal.returns-then-x-v
 returns-then-x-v c = λ T L r m. for_goal _ c.requires.x_lt_n r m c.if-x-v.true
 

@@ -3,7 +3,6 @@ use Rattle.grid.proofs.Places.{grid-lent}
 use Rattle.adding.proofs.Ticks.{departing-self, departing-other}
 use Rattle.building.proofs.column.departure.Goals as goal
 
-
 pub returns-then-x-u : goal.returns-then-x-u
 returns-then-x-u c = departing-self _ _ _ _ _ _ c.if-x-u.true
 

@@ -3,7 +3,6 @@ use native.Mathlib.Omega.{arith}
 use Rattle.building.proofs.MarkingContacts.{contact-can_mark, contact-marked}
 use Rattle.building.proofs.mark_words.mark_contact.Goals as goal
 
-
 pub overflow_mul-u : goal.overflow_mul-u
 overflow_mul-u c = omega (arith, (contact-can_mark c.requires).place.cell_below)
 

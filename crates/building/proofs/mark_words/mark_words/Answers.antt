@@ -5,7 +5,6 @@ use native.Mathlib.Omega.{arith}
 use Rattle.building.proofs.MarkingContacts.{words-start, words-next, words-turn, words-few, words-end}
 use Rattle.building.proofs.mark_words.mark_words.Goals as goal
 
-
 -- ---- the needs
 pub loop-i-init : goal.loop-i-init
 loop-i-init c = (refl, omega arith, words-start, refl)

@@ -2,7 +2,6 @@
 use Rattle.checks.specs.Verdicts.{and_then}
 use Rattle.checks.proofs.groups.and_then.Goals as goal
 
-
 pub returns-in-Refused : goal.returns-in-Refused
 unfolding and_then
 returns-in-Refused c = rw c.in-Refused.is

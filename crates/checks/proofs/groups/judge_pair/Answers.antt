@@ -9,7 +9,6 @@ use Rattle.rules.proofs.Groups.{one-check}
 use Rattle.checks.proofs.Judged.{chained, check_as, animals-read}
 use Rattle.checks.proofs.groups.judge_pair.Goals as goal
 
-
 pub returns : goal.returns
 returns c = let e = animals-read c.args.table.now c.animals_of-n.ensures c.first_word.ensures in
     chained (one-check (ltb c.args.u (animals c.args.table.now) && ltb c.args.v (animals c.args.table.now)) NoSuchAnimal) _

@@ -6,7 +6,6 @@ use Rattle.rules.specs.Folds.{within}
 use Rattle.checks.proofs.Judged.{ticks-read}
 use Rattle.checks.proofs.groups.window_in_range.Goals as goal
 
-
 pub returns : goal.returns
 returns c = let e = ticks-read c.args.table.now c.ticks_of-ticks.ensures c.first_word.ensures in
     c.both.ensures

@@ -3,7 +3,6 @@ use native.Mathlib.Omega.{arith}
 use Rattle.claims.proofs.Words.{goes-elsewhere, goes-early, goes-outside, goes-held}
 use Rattle.claims.proofs.held.goes_on.Goals as goal
 
-
 pub returns-then-from_of-x : goal.returns-then-from_of-x
 returns-then-from_of-x c = goes-elsewhere c.args.table.now c.args.w c.args.first c.args.last c.args.x c.args.a _ c.from_of.ensures (λ e. omega arith)
 

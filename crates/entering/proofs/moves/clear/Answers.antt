@@ -1,11 +1,9 @@
 -- `moves::clear` meets its contract: its loop copies unused words.
-use Prim.Native.Nat.{◌-◌}
 use mathlib.Core.Path.{sym, ◌∙◌}
 use native.Mathlib.Omega.{arith}
 use lib.ListN.{length-replicate, get_or-replicate}
 use Rattle.entering.proofs.Replace.{copied_start, copied_turn, copied_end}
 use Rattle.entering.proofs.moves.clear.Goals as goal
-
 
 pub loop-j-init : goal.loop-j-init
 loop-j-init c = (omega arith, copied_start _ _ _)

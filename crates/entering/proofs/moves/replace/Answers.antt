@@ -7,7 +7,6 @@ use Rattle.entering.specs.Rows.{overwrite_at, unused, padded, spliced}
 use Rattle.entering.proofs.Replace.{insert_fits, close_fits}
 use Rattle.entering.proofs.moves.replace.Goals as goal
 
-
 pub returns-then-lo-hi : goal.returns-then-lo-hi
 returns-then-lo-hi c = c.insert_at.ensures
     ∙ insert_fits c.args.rows.now c.args.n c.requires.lo_le_hi.2 c.requires.rows_value c.args.lo c.args.w (omega arith) (omega arith)

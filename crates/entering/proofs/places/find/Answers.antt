@@ -1,7 +1,6 @@
 -- `places::find` meets its contract: the first row that departs at or after d says whether a row lies inside [d, a], and where the step back may start.
 use Prim.Native.Nat.{ℕ}
 use mathlib.Core.Path.{◌≡◌, sym, ◌∙◌}
-use mathlib.Core.Bool.{false}
 use native.Mathlib.Omega.{arith}
 use Rattle.rules.specs.Layout.{cell_of}
 use Rattle.cells.specs.Stored.{arrival_end}
@@ -9,7 +8,6 @@ use Rattle.cells.proofs.Search.{front_length}
 use Rattle.cells.proofs.Lent.{in-use_length}
 use Rattle.entering.proofs.Slots.{Searched, none_inside, none-past, row_inside, row-outside, row-arrives, row_same, row_other, row_within}
 use Rattle.entering.proofs.places.find.Goals as goal
-
 
 pub bounds-cell-0 : goal.bounds-cell-0
 bounds-cell-0 c = omega (arith, c.requires.within)

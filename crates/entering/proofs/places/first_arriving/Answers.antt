@@ -4,7 +4,6 @@ use Rattle.cells.proofs.Lent.{in-use_length}
 use Rattle.entering.proofs.Slots.{step-stops, step-goes}
 use Rattle.entering.proofs.places.first_arriving.Goals as goal
 
-
 pub loop-lo-init : goal.loop-lo-init
 loop-lo-init c = c.requires.cell_bound
 

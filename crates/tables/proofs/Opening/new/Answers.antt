@@ -3,7 +3,6 @@ use Rattle.cell_checks.proofs.Checks.{stopped, passed}
 use Rattle.tables.proofs.Openings.{animals-beyond, ticks-beyond, carry-beyond, all-within}
 use Rattle.tables.proofs.Opening.new.Goals as goal
 
-
 pub returns-then-not-is_within : goal.returns-then-not-is_within
 returns-then-not-is_within c = animals-beyond _ _ _ (stopped c.is_within.ensures c.if-not-is_within.true-raw)
 

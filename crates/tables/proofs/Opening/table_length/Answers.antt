@@ -3,7 +3,6 @@ use native.Mathlib.Omega.{arith}
 use Rattle.tables.proofs.Openings.{length-bound}
 use Rattle.tables.proofs.Opening.table_length.Goals as goal
 
-
 pub overflow_mul-result : goal.overflow_mul-result
 overflow_mul-result c = omega (arith, (length-bound c.args.self.animals c.args.self.ticks c.requires.0 c.requires.1))
 
