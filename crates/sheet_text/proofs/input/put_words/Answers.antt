@@ -16,7 +16,7 @@ pub loop-i-preserved : goal.loop-i-preserved
 loop-i-preserved c = (c.loop-i.invariant.0, omega arith, words-turn _ _ _ _ c.loop-i.invariant.2 (omega arith) _ c.word_at.ensures)
 
 pub shape_of-out : goal.shape_of-out
-shape_of-out c = c.loop-i.invariant.2.auto
+shape_of-out c = c.loop-i.invariant.2.kept
 
 pub returns : goal.returns
 returns c = words-done _ _ _ _ c.loop-i.invariant.2 (omega (arith, c.requires.0))

@@ -17,7 +17,7 @@ pub loop-i-preserved : goal.loop-i-preserved
 loop-i-preserved c = (c.loop-i.invariant.0, omega arith, bytes-turn _ _ _ _ c.loop-i.invariant.2 (omega arith))
 
 pub shape_of-out : goal.shape_of-out
-shape_of-out c = c.loop-i.invariant.2.auto
+shape_of-out c = c.loop-i.invariant.2.kept
 
 pub returns : goal.returns
 returns c = record { value = refl; out_after = bytes-done _ _ _ _ c.loop-i.invariant.2 (omega arith) }
