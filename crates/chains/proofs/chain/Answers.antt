@@ -1,6 +1,5 @@
 -- `chain` meets its contract: each return is a case of the rule.
 use mathlib.Core.Path.{refl}
-use Prim.Native.Nat.{◌-◌}
 use native.Mathlib.Omega.{arith}
 use Rattle.rules.specs.Chains.{chain_answer, chain_leaves}
 use Rattle.rules.proofs.Sound.{table-sizes}
@@ -8,7 +7,6 @@ use Rattle.rules.proofs.Asked.{room-behind}
 use Rattle.checks.proofs.Judged.{verdict_refused, verdict_passed}
 use Rattle.chains.proofs.Replies.{chain_none, chain-found}
 use Rattle.chains.proofs.chain.Goals as goal
-
 
 -- ---- needs
 pub find-steps-requires : goal.find-steps-requires

@@ -2,12 +2,11 @@
 -- The measure is how many words are left.
 use mathlib.Core.Path.{◌≡◌, refl, ap, ◌∙◌}
 use mathlib.Core.List.{◌++◌}
-use Prim.Native.Nat.{ℕ, ◌-◌}
+use Prim.Native.Nat.{ℕ}
 use native.Mathlib.Omega.{arith}
 use lib.ListN.{take, drop, length-set}
 use Rattle.chains.proofs.Replies.{front-step}
 use Rattle.chains.proofs.write_front.Goals as goal
-
 
 pub loop-i-init : goal.loop-i-init
 loop-i-init c = (omega arith, refl, refl)

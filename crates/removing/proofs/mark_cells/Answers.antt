@@ -1,12 +1,10 @@
 -- `mark_cells` meets its contract. The loop's invariant: the contacts of the cells passed are marked, but for the one left out. The measure is
 -- how many words are left.
-use Prim.Native.Nat.{◌-◌}
 use native.Mathlib.Omega.{arith}
 use Rattle.grid.proofs.Steps.{next-less, at-cell, none_left}
 use Rattle.removing.proofs.MarkedSets.{marked-kept}
 use Rattle.removing.proofs.CellByCell.{cells-start, cell-next, cell-turn, cells-marked}
 use Rattle.removing.proofs.mark_cells.Goals as goal
-
 
 pub loop-here-init : goal.loop-here-init
 loop-here-init c = cells-start _ c.first_cell-here.ensures

@@ -3,7 +3,6 @@ use Rattle.rules.specs.Layout.{cells_of}
 use Rattle.chains.proofs.Lending.{cell-rises, with_none, with_apart, with_late, with_here}
 use Rattle.chains.proofs.pairs.departure_with.Goals as goal
 
-
 -- ---- needs
 pub returns-then-row-b : goal.returns-then-row-b
 returns-then-row-b c = with_apart ((cells_of c.args.table.now c.args.u c.args.v)) c.args.a c.args.b ((cell-rises c.args.table.now c.requires.valid_table c.args.u c.args.v c.requires.u_bound.0 c.requires.u_bound.1)) c.last_arriving-found.ensures c.in-At.is c.if-row-b.true

@@ -6,7 +6,6 @@ use Rattle.rules.proofs.Sound.{opens-length}
 use Rattle.chains.proofs.Leading.{lead_none, lead_goal, lead_on}
 use Rattle.chains.proofs.steps.lead_to.Goals as goal
 
-
 -- ---- needs
 pub bounds-table-0 : goal.bounds-table-0
 bounds-table-0 c = omega (arith, opens-length c.args.table.now c.requires.valid_table.opens)
