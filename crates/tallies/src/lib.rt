@@ -1,4 +1,6 @@
 // The tally of counted calls: whether it has room for one more, and which of its numbers a call raises.
+#![tactic(auto)]
+
 ghost use Rattle.std.specs.Prelude.{◌≡◌, true};
 ghost use Rattle.rules.specs.Counting.{tally_sum, has_room, raised, raised_by_removal};
 
