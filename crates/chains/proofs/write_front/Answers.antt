@@ -2,12 +2,11 @@
 -- The measure is how many words are left.
 use mathlib.Core.Path.{◌≡◌, refl, ap, ◌∙◌}
 use mathlib.Core.List.{◌++◌}
-use Prim.Native.Nat.{ℕ, ◌-◌}
+use Prim.Native.Nat.{ℕ}
 use native.Mathlib.Omega.{arith}
 use lib.ListN.{take, drop, length-set}
 use Rattle.chains.proofs.Replies.{front-step}
 use Rattle.chains.proofs.write_front.Goals as goal
-
 
 pub loop-i-init : goal.loop-i-init
 loop-i-init c = (omega arith, refl, refl)
@@ -19,5 +18,6 @@ pub shape_of-buffer : goal.shape_of-buffer
 shape_of-buffer c = c.loop-i.invariant.1
 
 pub returns : goal.returns
-returns c = let e : c.loop-i.i ≡ c.args.count = omega arith in
+returns c =
+    let e : c.loop-i.i ≡ c.args.count = omega arith in
     c.loop-i.invariant.2 ∙ ap (λ (k : ℕ). take k c.args.from ++ drop k c.args.buffer.now) e

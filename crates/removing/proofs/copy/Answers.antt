@@ -1,9 +1,7 @@
 -- `copy` meets its contract. The loop's invariant: the words passed are copied. The measure is how many are left.
-use Prim.Native.Nat.{◌-◌}
 use native.Mathlib.Omega.{arith}
 use Rattle.removing.proofs.Removed.{copied_start, copied_turn, copied_end}
 use Rattle.removing.proofs.copy.Goals as goal
-
 
 pub loop-i-init : goal.loop-i-init
 loop-i-init c = (omega arith, copied_start (omega arith))

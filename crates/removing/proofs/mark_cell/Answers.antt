@@ -1,10 +1,8 @@
 -- `mark_cell` meets its contract. The loop's invariant: the contacts of the rows passed are marked, but for the one left out. The measure is
 -- how many rows are left.
-use Prim.Native.Nat.{◌-◌}
 use Rattle.removing.proofs.MarkedSets.{marked-kept}
 use Rattle.removing.proofs.CellByCell.{rows_start, row_next, row-turn, rows-marked}
 use Rattle.removing.proofs.mark_cell.Goals as goal
-
 
 pub loop-i-init : goal.loop-i-init
 loop-i-init c = rows_start _ _ c.rows_of.ensures c.requires.stored

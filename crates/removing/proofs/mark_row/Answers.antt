@@ -3,7 +3,6 @@ use native.Mathlib.Omega.{arith}
 use Rattle.removing.proofs.CellByCell.{row-left_out, row-longer, row-can_mark, row-marked}
 use Rattle.removing.proofs.mark_row.Goals as goal
 
-
 pub returns-then-t-except : goal.returns-then-t-except
 returns-then-t-except c = row-left_out _ _ _ _ _ c.departure_of-t.ensures (omega arith)
 

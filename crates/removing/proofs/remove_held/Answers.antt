@@ -2,6 +2,5 @@
 use mathlib.Core.Path.{◌∙◌}
 use Rattle.removing.proofs.remove_held.Goals as goal
 
-
 pub returns : goal.returns
 returns c = record { table_after = c.copy.ensures ∙ c.build_without.ensures; work_after = c.build_without.ensures }

@@ -3,7 +3,6 @@ use native.Mathlib.Omega.{arith}
 use Rattle.removing.proofs.CellByCell.{left-out_here, left-out_from, left-out_to}
 use Rattle.removing.proofs.tick_left_out.Goals as goal
 
-
 pub returns-then-here-u : goal.returns-then-here-u
 returns-then-here-u c = left-out_from _ _ _ (λ e. omega arith) (omega arith)
 

@@ -5,7 +5,6 @@ use native.Mathlib.Omega.{arith}
 use Rattle.rules.specs.Answers.{reply, interval_reply}
 use Rattle.replies.proofs.of_interval.Goals as goal
 
-
 pub returns-in-At : goal.returns-in-At
 returns-in-At c =
     let e = c.in-At.ends in

@@ -1,13 +1,12 @@
 -- `steps::lowest` meets its contract. The loop's invariant: no contact leads to an animal passed. The measure is how many animals are
 -- left.
 use mathlib.Core.Path.{ap, ◌∙◌, subst}
-use Prim.Native.Nat.{ℕ, ◌-◌, ◌<◌}
+use Prim.Native.Nat.{ℕ, ◌<◌}
 use native.Mathlib.Omega.{arith}
 use Rattle.rules.specs.Chains.{leads, lowest}
 use Rattle.rules.proofs.Sound.{opens-length}
 use Rattle.chains.proofs.Leading.{none_yet, none-next, found_here, found_none}
 use Rattle.chains.proofs.steps.lowest.Goals as goal
-
 
 -- ---- needs
 pub bounds-table-0 : goal.bounds-table-0
