@@ -3,8 +3,6 @@ use mathlib.Core.Path.{◌≡◌, refl, sym, ap, ◌∙◌}
 use mathlib.Core.Bool.{true, false}
 use mathlib.Core.List.{List}
 use Prim.Native.Nat.{ℕ}
-use seplogic.Ra.Ura.{Ura}
-use base.Logic.{SProp}
 use Rattle.journeys.specs.Journey.{Contact}
 use Rattle.journeys.proofs.Tests.{untrue}
 use Rattle.rules.specs.declared.Refusal.TheVariants.{TallyFull}
@@ -14,16 +12,11 @@ use Rattle.rules.specs.declared.Tally.{Tally}
 use Rattle.rules.specs.Adding.{add_answer, add_leaves}
 use Rattle.rules.specs.Counting.{has_room, counted_answer, counted_leaves, raised, counted_tally}
 use Rattle.rules.proofs.Counted.{counted-cases}
-use Rattle.tallies.proofs.Steps.{Three}
 
 module _ (t : Tally) (T : List ℕ) (k : Contact) where
   -- The tally, the answer and the table's words afterwards are those of the counted add.
   abbrev pub Said : Tally → AddAnswer → List ℕ → Type 0
   Said r a U = (r ≡ counted_tally t T k) × ((a ≡ counted_answer t T k) × (U ≡ counted_leaves t T k))
-
-  -- The same, clause by clause.
-  abbrev pub Clauses : {M : Type 1} (𝓤 : Ura M) → Tally → AddAnswer → List ℕ → SProp 𝓤
-  Clauses 𝓤 r a U = Three 𝓤 (r ≡ counted_tally t T k) (a ≡ counted_answer t T k) (U ≡ counted_leaves t T k)
 
   -- A full tally refuses with 16, and all stays as it was.
   pub full_refused : has_room t ≡ false → Said t (Refused TallyFull) T

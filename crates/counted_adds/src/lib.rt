@@ -33,9 +33,9 @@ pub fn add_counted(table: &mut [u32], tally: Tally, u: u32, v: u32, t: u32) -> C
 
 // Adds the contact and moves the tally lent by the caller. Refuses with 16, 5, 6, 7, 8, 9.
 pub fn counted_add(table: &mut [u32], tally: &mut Tally, u: u32, v: u32, t: u32) -> AddAnswer
-    ensures tally_after { tally.new ≡ counted_tally tally.old table.old (contact u v t) }
-    ensures value { result ≡ counted_answer tally.old table.old (contact u v t) }
-    ensures table_after { table.new ≡ counted_leaves tally.old table.old (contact u v t) }
+    ensures tally_after { tally.exit.now ≡ counted_tally tally.entry.now table.old (contact u v t) }
+    ensures value { result ≡ counted_answer tally.entry.now table.old (contact u v t) }
+    ensures table_after { table.new ≡ counted_leaves tally.entry.now table.old (contact u v t) }
 {
     let before = *tally;
     let counted = add_counted(table, before, u, v, t);

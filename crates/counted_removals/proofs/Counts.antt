@@ -3,8 +3,6 @@ use mathlib.Core.Path.{◌≡◌, refl, sym, ap, ◌∙◌}
 use mathlib.Core.Bool.{true, false}
 use mathlib.Core.List.{List}
 use Prim.Native.Nat.{ℕ}
-use seplogic.Ra.Ura.{Ura}
-use base.Logic.{SProp}
 use Rattle.journeys.specs.Journey.{Contact}
 use Rattle.journeys.proofs.Tests.{untrue}
 use Rattle.rules.specs.declared.Refusal.TheVariants.{TallyFull}
@@ -14,16 +12,11 @@ use Rattle.rules.specs.declared.Tally.{Tally}
 use Rattle.rules.specs.Removing.{remove_answer, remove_leaves, remove_work}
 use Rattle.rules.specs.Counting.{has_room, counted_removal, counted_removal_leaves, counted_removal_work, raised_by_removal, counted_removal_tally}
 use Rattle.rules.proofs.Counted.{removal-cases}
-use Rattle.tallies.proofs.Steps.{Four}
 
 module _ (t : Tally) (T W : List ℕ) (k : Contact) where
   -- The tally, the answer and both tables' words afterwards are those of the counted removal.
   abbrev pub Said : Tally → DoneAnswer → List ℕ → List ℕ → Type 0
   Said r a U Z = (r ≡ counted_removal_tally t T W k) × ((a ≡ counted_removal t T W k) × ((U ≡ counted_removal_leaves t T W k) × (Z ≡ counted_removal_work t T W k)))
-
-  -- The same, clause by clause.
-  abbrev pub Clauses : {M : Type 1} (𝓤 : Ura M) → Tally → DoneAnswer → List ℕ → List ℕ → SProp 𝓤
-  Clauses 𝓤 r a U Z = Four 𝓤 (r ≡ counted_removal_tally t T W k) (a ≡ counted_removal t T W k) (U ≡ counted_removal_leaves t T W k) (Z ≡ counted_removal_work t T W k)
 
   -- A full tally refuses with 16, and all stays as it was.
   pub full_refused : has_room t ≡ false → Said t (Refused TallyFull) T W

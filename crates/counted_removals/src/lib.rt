@@ -48,10 +48,10 @@ pub fn counted_remove(
     v: u32,
     t: u32,
 ) -> DoneAnswer
-    ensures tally_after { tally.new ≡ counted_removal_tally tally.old table.old work.old (contact u v t) }
-    ensures value { result ≡ counted_removal tally.old table.old work.old (contact u v t) }
-    ensures table_after { table.new ≡ counted_removal_leaves tally.old table.old work.old (contact u v t) }
-    ensures work_after { work.new ≡ counted_removal_work tally.old table.old work.old (contact u v t) }
+    ensures tally_after { tally.exit.now ≡ counted_removal_tally tally.entry.now table.old work.old (contact u v t) }
+    ensures value { result ≡ counted_removal tally.entry.now table.old work.old (contact u v t) }
+    ensures table_after { table.new ≡ counted_removal_leaves tally.entry.now table.old work.old (contact u v t) }
+    ensures work_after { work.new ≡ counted_removal_work tally.entry.now table.old work.old (contact u v t) }
 {
     let before = *tally;
     let removed = remove_counted(table, work, before, u, v, t);

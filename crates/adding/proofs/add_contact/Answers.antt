@@ -13,7 +13,8 @@ use Rattle.adding.proofs.Added.{accepted, Read, read-cells, read_below, read_kno
 use Rattle.adding.proofs.add_contact.Goals as goal
 
 -- The numbers as they were read.
-read : (T : List ℕ) (k : Contact) {n τ δ : ℕ} → n ≡ animals T → τ ≡ ticks T → δ ≡ carry T → Read T k n (τ + 1) (k.tick + δ) (take (length T - 1) (drop 1 T))
+read : (T : List ℕ) (k : Contact) {n τ δ : ℕ} → n ≡ animals T → τ ≡ ticks T → δ ≡ carry T
+    → Read T k n (τ + 1) (k.tick + δ) (take (length T - 1) (drop 1 T))
 read T k n_is τ_is δ_is =
     record {
       animals-is = n_is;

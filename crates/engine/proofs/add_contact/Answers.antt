@@ -5,16 +5,23 @@ use Rattle.checks.proofs.Judged.{verdict_refused, verdict_passed}
 use Rattle.engine.proofs.Told.{known-told, new_told}
 use Rattle.engine.proofs.add_contact.Goals as goal
 
-
 pub add_contact-change-requires : goal.add_contact-change-requires
-add_contact-change-requires c = (verdict_passed c.judge_add-verdict.ensures c.in-Passed.is)
+add_contact-change-requires c = verdict_passed c.judge_add-verdict.ensures c.in-Passed.is
 
 pub returns-then-change : goal.returns-then-change
-returns-then-change c = let r = c.add_contact-change.ensures in record { value = known-told _ _ ((verdict_passed c.judge_add-verdict.ensures c.in-Passed.is)) r.1.0 (sym r.0 ∙ c.if-change.true); table_after = r.1.1 }
+returns-then-change c =
+    let e = verdict_passed c.judge_add-verdict.ensures c.in-Passed.is in
+    let r = c.add_contact-change.ensures in
+    record { value = known-told _ _ e r.cells_value (sym r.known_value ∙ c.if-change.true); table_after = r.table_after }
 
 pub returns-in-Refused : goal.returns-in-Refused
 unfolding add_answer add_leaves
-returns-in-Refused c = let e = verdict_refused c.judge_add-verdict.ensures c.in-Refused.is in record { value = rw e refl; table_after = rw e refl }
+returns-in-Refused c =
+    let e = verdict_refused c.judge_add-verdict.ensures c.in-Refused.is in
+    record { value = rw e refl; table_after = rw e refl }
 
 pub returns-else-change : goal.returns-else-change
-returns-else-change c = let r = c.add_contact-change.ensures in record { value = new_told _ _ ((verdict_passed c.judge_add-verdict.ensures c.in-Passed.is)) r.1.0 (sym r.0 ∙ c.if-change.false); table_after = r.1.1 }
+returns-else-change c =
+    let e = verdict_passed c.judge_add-verdict.ensures c.in-Passed.is in
+    let r = c.add_contact-change.ensures in
+    record { value = new_told _ _ e r.cells_value (sym r.known_value ∙ c.if-change.false); table_after = r.table_after }

@@ -1,5 +1,4 @@
 -- `join_held` meets its contract: the numbers are read off the second table, and its cells are joined.
-use Prim.Native.Nat.{◌-◌}
 use native.Mathlib.Omega.{arith}
 use Rattle.rules.proofs.Joining.{Joins}
 use Rattle.tables.proofs.TableRead.{read_table, table-opened, read-carry}

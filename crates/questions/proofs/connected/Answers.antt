@@ -5,7 +5,6 @@ use Rattle.rules.proofs.Asked.{valid-behind}
 use Rattle.checks.proofs.Judged.{verdict_refused, verdict_passed}
 use Rattle.questions.proofs.connected.Goals as goal
 
-
 pub connects-requires : goal.connects-requires
 unfolding connected_refusal
 connects-requires c = (valid-behind c.args.table.now ((verdict_passed c.judge_connected-verdict.ensures c.in-Passed.is))).0

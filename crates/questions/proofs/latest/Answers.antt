@@ -5,7 +5,6 @@ use Rattle.checks.proofs.Judged.{verdict_refused, verdict_passed}
 use Rattle.questions.proofs.Intervals.{asked-pair, latest-answered}
 use Rattle.questions.proofs.latest.Goals as goal
 
-
 pub last_arriving-requires : goal.last_arriving-requires
 last_arriving-requires c = let p = asked-pair _ _ _ _ ((verdict_passed c.judge_moment-verdict.ensures c.in-Passed.is)) in record { valid_table = p.valid; u_bound = (p.from_below, p.to_below) }
 

@@ -8,7 +8,6 @@ use Rattle.rules.proofs.Groups.{table-group}
 use Rattle.checks.proofs.Judged.{verdict_refused, table-valid}
 use Rattle.questions.proofs.reach.Goals as goal
 
-
 pub reach_checked-requires : goal.reach_checked-requires
 reach_checked-requires c = table-valid c.args.table.now c.judge_table-whole.ensures c.in-Passed.is
 

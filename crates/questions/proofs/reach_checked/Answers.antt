@@ -9,7 +9,6 @@ use Rattle.rules.proofs.Groups.{behind-valid}
 use Rattle.checks.proofs.Judged.{verdict_refused, verdict_passed}
 use Rattle.questions.proofs.reach_checked.Goals as goal
 
-
 pub reaches-requires : goal.reaches-requires
 unfolding reach_refusal
 reaches-requires c = let p = ((pair-behind c.args.table.now c.args.u c.args.v ((let it : reach_refusal c.args.table.now c.args.u c.args.v c.args.first c.args.last ≡ none = (behind-valid c.args.table.now c.requires (ensure_pair c.args.table.now c.args.u c.args.v (ensure_window c.args.table.now c.args.first c.args.last none))) ∙ verdict_passed c.judge_question-verdict.ensures c.in-Passed.is in it))).0) in record { valid_table = p.valid; u_bound = (p.from_below, p.to_below) }

@@ -6,7 +6,6 @@ use Rattle.rules.specs.Questions.{reached_refusal, reached_answer, reached_words
 use Rattle.checks.proofs.Judged.{animal-behind, verdict_refused, verdict_passed}
 use Rattle.questions.proofs.reached.Goals as goal
 
-
 pub collect-requires : goal.collect-requires
 unfolding reached_refusal
 collect-requires c = let r = animal-behind c.args.table.now c.args.u (ensure_window c.args.table.now c.args.first c.args.last none) ((verdict_passed c.judge_reached-verdict.ensures c.in-Passed.is)) in record { valid_table = r.0; u_bound = r.1 }

@@ -5,7 +5,6 @@ use Rattle.stays.proofs.Bits.{shifted}
 use Rattle.stays.proofs.Pens.{bit-before, bit-after, bit-there}
 use Rattle.stays.proofs.pen_bit.Goals as goal
 
-
 pub returns-then-t-stay : goal.returns-then-t-stay
 returns-then-t-stay c = bit-before _ _ (omega (arith, c.if-t-stay.true))
 

@@ -8,7 +8,8 @@ use Rattle.adding.specs.Steps.{entered_from, changes_from}
 use Rattle.adding.proofs.steps.enter_all_cells.Given as goal
 
 abbrev pub invariant-loop-x : goal.invariant-loop-x
-invariant-loop-x l = Walk (entered_from l.n l.size l.d l.e) l.width l.n l.initial.body l.body l.at l.x × (l.changed ≡ sum_below (changes_from l.n l.size l.d l.e l.initial.body) l.x)
+invariant-loop-x l = Walk (entered_from l.n l.size l.d l.e) l.width l.n l.initial.body l.body l.at l.x
+    × (l.changed ≡ sum_below (changes_from l.n l.size l.d l.e l.initial.body) l.x)
 
 abbrev pub decreases-loop-x : goal.decreases-loop-x
 decreases-loop-x l = l.n - l.x

@@ -63,8 +63,8 @@ overflow_add-changed c =
     let a = c.args in
     let l = c.loop-y in
     let r = c.requires.cells_from in
-    omega
-    (arith, count_small _ l.y l.changed c.enter_cell-changed.result a.x l.y a.d (get_or a.e.now l.y 0) _ l.invariant.1 c.enter_cell-changed.ensures.value, r.few, c.loop-y-test.true)
+    let f = c.enter_cell-changed in
+    omega (arith, count_small _ l.y l.changed f.result a.x l.y a.d (get_or a.e.now l.y 0) _ l.invariant.1 f.ensures.value, r.few, c.loop-y-test.true)
 
 pub loop-y-preserved : goal.loop-y-preserved
 unfolding entered_at

@@ -8,7 +8,8 @@ use Rattle.adding.specs.Steps.{entered_at, changes_at}
 use Rattle.adding.proofs.steps.enter_cells_from.Given as goal
 
 abbrev pub invariant-loop-y : goal.invariant-loop-y
-invariant-loop-y l = Walk (entered_at l.x l.d l.e) l.size l.n l.initial.cells l.cells l.at l.y × (l.changed ≡ count_below (changes_at l.size l.x l.d l.e l.initial.cells) l.y)
+invariant-loop-y l = Walk (entered_at l.x l.d l.e) l.size l.n l.initial.cells l.cells l.at l.y
+    × (l.changed ≡ count_below (changes_at l.size l.x l.d l.e l.initial.cells) l.y)
 
 abbrev pub decreases-loop-y : goal.decreases-loop-y
 decreases-loop-y l = l.n - l.y
