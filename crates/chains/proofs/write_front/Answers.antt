@@ -18,5 +18,6 @@ pub shape_of-buffer : goal.shape_of-buffer
 shape_of-buffer c = c.loop-i.invariant.1
 
 pub returns : goal.returns
-returns c = let e : c.loop-i.i ≡ c.args.count = omega arith in
+returns c =
+    let e : c.loop-i.i ≡ c.args.count = omega arith in
     c.loop-i.invariant.2 ∙ ap (λ (k : ℕ). take k c.args.from ++ drop k c.args.buffer.now) e

@@ -3,7 +3,6 @@ use mathlib.Core.Path.{sym, ap, ◌∙◌}
 use Rattle.rules.specs.Answers.{add_reply}
 use Rattle.replies.proofs.of_add.Goals as goal
 
-
 pub returns-in-New : goal.returns-in-New
 returns-in-New c = c.reply_of.ensures ∙ ap add_reply (sym c.in-New.is)
 

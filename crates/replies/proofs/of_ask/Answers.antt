@@ -3,7 +3,6 @@ use mathlib.Core.Path.{sym, ap, ◌∙◌}
 use Rattle.rules.specs.Answers.{ask_reply}
 use Rattle.replies.proofs.of_ask.Goals as goal
 
-
 pub returns-in-Yes : goal.returns-in-Yes
 returns-in-Yes c = c.reply_of.ensures ∙ ap ask_reply (sym c.in-Yes.is)
 

@@ -3,7 +3,6 @@ use mathlib.Core.Path.{sym, ap, ◌∙◌}
 use Rattle.rules.specs.Answers.{chain_reply}
 use Rattle.replies.proofs.of_chain.Goals as goal
 
-
 pub returns-in-Chain : goal.returns-in-Chain
 returns-in-Chain c = c.reply_of.ensures ∙ ap chain_reply (sym c.in-Chain.is)
 

@@ -3,7 +3,6 @@ use mathlib.Core.Path.{sym, ap, ◌∙◌}
 use Rattle.rules.specs.Answers.{done_reply}
 use Rattle.replies.proofs.of_done.Goals as goal
 
-
 pub returns-in-Done : goal.returns-in-Done
 returns-in-Done c = c.reply_of.ensures ∙ ap done_reply (sym c.in-Done.is)
 

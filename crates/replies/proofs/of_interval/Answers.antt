@@ -5,9 +5,9 @@ use native.Mathlib.Omega.{arith}
 use Rattle.rules.specs.Answers.{reply, interval_reply}
 use Rattle.replies.proofs.of_interval.Goals as goal
 
-
 pub returns-in-At : goal.returns-in-At
-returns-in-At c = let e = c.in-At.ends in
+returns-in-At c =
+    let e = c.in-At.ends in
     let p : c.reply_of.result + e.departure * 65536 + e.arrival ≡ reply 1 (e.departure * 2 ^ 16 + e.arrival) = omega (arith, c.reply_of.ensures) in
     p ∙ ap interval_reply (sym c.in-At.is)
 

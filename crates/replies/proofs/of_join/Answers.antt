@@ -3,7 +3,6 @@ use mathlib.Core.Path.{sym, ap, ◌∙◌}
 use Rattle.rules.specs.Answers.{join_reply}
 use Rattle.replies.proofs.of_join.Goals as goal
 
-
 pub returns-in-Joined : goal.returns-in-Joined
 returns-in-Joined c = c.reply_of.ensures ∙ ap join_reply (sym c.in-Joined.is)
 

@@ -4,7 +4,6 @@ use native.Mathlib.Omega.{arith}
 use Rattle.rules.specs.Answers.{list_reply}
 use Rattle.replies.proofs.of_list.Goals as goal
 
-
 pub overflow_add-result : goal.overflow_add-result
 overflow_add-result c = omega (arith, ap list_reply c.in-Answered.is, c.requires)
 

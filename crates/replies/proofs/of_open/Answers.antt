@@ -3,7 +3,6 @@ use mathlib.Core.Path.{sym, ap, ◌∙◌}
 use Rattle.rules.specs.Answers.{open_reply}
 use Rattle.replies.proofs.of_open.Goals as goal
 
-
 pub returns-in-Opened : goal.returns-in-Opened
 returns-in-Opened c = c.reply_of.ensures ∙ ap open_reply (sym c.in-Opened.is)
 

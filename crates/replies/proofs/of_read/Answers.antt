@@ -3,7 +3,6 @@ use mathlib.Core.Path.{sym, ap, ◌∙◌}
 use Rattle.rules.specs.Answers.{read_reply}
 use Rattle.replies.proofs.of_read.Goals as goal
 
-
 pub returns-in-Read : goal.returns-in-Read
 returns-in-Read c = c.reply_of.ensures ∙ ap read_reply (sym c.in-Read.is)
 

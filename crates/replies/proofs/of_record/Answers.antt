@@ -3,7 +3,6 @@ use mathlib.Core.Path.{sym, ap, ◌∙◌}
 use Rattle.rules.specs.Answers.{record_reply}
 use Rattle.replies.proofs.of_record.Goals as goal
 
-
 pub returns-in-Unasked : goal.returns-in-Unasked
 returns-in-Unasked c = c.reply_of.ensures ∙ ap record_reply (sym c.in-Unasked.is)
 

@@ -3,7 +3,6 @@ use mathlib.Core.Path.{sym, ap, ◌∙◌}
 use Rattle.rules.specs.Answers.{stays_reply}
 use Rattle.replies.proofs.of_stays.Goals as goal
 
-
 pub returns-in-Added : goal.returns-in-Added
 returns-in-Added c = c.reply_of.ensures ∙ ap stays_reply (sym c.in-Added.is)
 

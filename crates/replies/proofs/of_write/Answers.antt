@@ -3,7 +3,6 @@ use mathlib.Core.Path.{sym, ap, ◌∙◌}
 use Rattle.rules.specs.Answers.{write_reply}
 use Rattle.replies.proofs.of_write.Goals as goal
 
-
 pub returns-in-Written : goal.returns-in-Written
 returns-in-Written c = c.reply_of.ensures ∙ ap write_reply (sym c.in-Written.is)
 

@@ -14,11 +14,23 @@ pub loop-i-init : goal.loop-i-init
 loop-i-init c = (omega arith, collected-start _ _ _ c.empty-found.ensures.words_value c.empty-found.ensures.count_value)
 
 pub with_reached-found-requires : goal.with_reached-found-requires
-with_reached-found-requires c = let h : c.loop-i.i < c.animals_of-n.result = omega arith in record { valid_table = c.requires.valid_table; u_bound = (c.requires.u_bound, subst (λ (k : ℕ). c.loop-i.i < k) c.animals_of-n.ensures h); collected = c.loop-i.invariant.1 }
+with_reached-found-requires c =
+    let h : c.loop-i.i < c.animals_of-n.result = omega arith in
+    record {
+      valid_table = c.requires.valid_table;
+      u_bound = (c.requires.u_bound, subst (λ (k : ℕ). c.loop-i.i < k) c.animals_of-n.ensures h);
+      collected = c.loop-i.invariant.1;
+    }
 
 pub loop-i-preserved : goal.loop-i-preserved
 loop-i-preserved c = (omega arith, c.with_reached-found.ensures)
 
 pub returns : goal.returns
-returns c = let h : c.animals_of-n.result ≤ c.loop-i.i = omega arith in
-    let w = c.loop-i.invariant in record { words_value = collected-words c.args.table.now c.args.u c.args.first c.args.last c.animals_of-n.ensures h w.0 w.1; count_value = collected-count c.args.table.now c.args.u c.args.first c.args.last c.animals_of-n.ensures h w.0 w.1 }
+returns c =
+    let a = c.args in
+    let h : c.animals_of-n.result ≤ c.loop-i.i = omega arith in
+    let w = c.loop-i.invariant in
+    record {
+      words_value = collected-words a.table.now a.u a.first a.last c.animals_of-n.ensures h w.0 w.1;
+      count_value = collected-count a.table.now a.u a.first a.last c.animals_of-n.ensures h w.0 w.1;
+    }

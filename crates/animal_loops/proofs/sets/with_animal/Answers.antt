@@ -10,4 +10,10 @@ pub overflow_add-marks : goal.overflow_add-marks
 overflow_add-marks c = record { fits = bit-fits (c.args.i % 32) (get_or c.args.before.words (c.args.i / 32) 0) (omega arith) c.requires.1 }
 
 pub returns : goal.returns
-returns c = record { words_value = ap (λ (b : ℕ). set c.args.before.words (c.args.i / 32) (get_or c.args.before.words (c.args.i / 32) 0 + b)) (shifted (c.args.i % 32) (omega arith)); count_value = refl }
+returns c =
+    let ws = c.args.before.words in
+    let at = c.args.i / 32 in
+    record {
+      words_value = ap (λ (b : ℕ). set ws at (get_or ws at 0 + b)) (shifted (c.args.i % 32) (omega arith));
+      count_value = refl;
+    }

@@ -1,5 +1,7 @@
 -- `walks::connects` meets its contract. The loop's invariant: the animals passed join all others. The measure is how many animals are
 -- left.
+use mathlib.Core.Path.{ap}
+use mathlib.Core.Bool.{not}
 use native.Mathlib.Omega.{arith}
 use Rattle.rules.proofs.Sound.{opens-length}
 use Rattle.grid.proofs.Reading.{tested-start, tested-turn, tested-stop, tested-end}
@@ -16,10 +18,13 @@ pub joins_all-requires : goal.joins_all-requires
 joins_all-requires c = record { valid_table = c.requires; u_lt_n = (omega arith, c.animals_of-n.ensures) }
 
 pub returns-then-not-joins_all : goal.returns-then-not-joins_all
-returns-then-not-joins_all c = all-connected c.args.table.now c.args.first c.args.last _ c.animals_of-n.ensures (tested-stop c.loop-u.invariant (omega arith) c.joins_all.ensures c.if-not-joins_all.true-raw)
+returns-then-not-joins_all c =
+    let t = tested-stop c.loop-u.invariant (omega arith) c.joins_all.ensures (ap not c.if-not-joins_all.true) in
+    all-connected c.args.table.now c.args.first c.args.last _ c.animals_of-n.ensures t
 
 pub loop-u-preserved : goal.loop-u-preserved
-loop-u-preserved c = tested-turn c.loop-u.invariant (omega arith) c.joins_all.ensures c.if-not-joins_all.false-raw
+loop-u-preserved c = tested-turn c.loop-u.invariant (omega arith) c.joins_all.ensures (ap not c.if-not-joins_all.false)
 
 pub returns : goal.returns
-returns c = all-connected c.args.table.now c.args.first c.args.last _ c.animals_of-n.ensures (tested-end c.loop-u.invariant (omega arith))
+returns c =
+    all-connected c.args.table.now c.args.first c.args.last _ c.animals_of-n.ensures (tested-end c.loop-u.invariant (omega arith))
