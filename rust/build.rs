@@ -1,10 +1,10 @@
 //! Links the archive of the engine's exports, `libherd_ffi.a`. It lies in the folder that the environment variable
-//! `HERD_ARCHIVE_DIR` names, and where that is not set, where `rt staticlib herd_ffi` puts it.
+//! `HERD_ARCHIVE_DIR` names, and where that is not set, where `rt lib` in `crates/herd_ffi` puts it.
 use std::env;
 use std::path::{Path, PathBuf};
 
 fn main() {
-    let built = Path::new(env!("CARGO_MANIFEST_DIR")).join("../target/staticlib");
+    let built = Path::new(env!("CARGO_MANIFEST_DIR")).join("../crates/herd_ffi/out");
     let folder = env::var_os("HERD_ARCHIVE_DIR").map_or(built, PathBuf::from);
     assert!(
         folder.is_absolute(),
@@ -17,7 +17,7 @@ fn main() {
     println!("cargo:rerun-if-changed={}", archive.display());
     assert!(
         archive.is_file(),
-        "{} is missing: run `rt staticlib herd_ffi` first, or set HERD_ARCHIVE_DIR to the folder that has it",
+        "{} is missing: run `rt lib` in crates/herd_ffi first, or set HERD_ARCHIVE_DIR to the folder that has it",
         archive.display()
     );
     println!("cargo:rustc-link-search=native={}", folder.display());

@@ -21,8 +21,14 @@ fn code_of(name: &str) -> String {
 fn without_comments(text: &str) -> String {
     text.lines()
         .map(|line| line.split("//").next().unwrap())
-        .filter(|line| !line.contains('⌜') && !line.starts_with("ghost "))
+        .filter(|line| !is_clause(line) && !line.starts_with("ghost "))
         .fold(String::new(), |code, line| code + line + "\n")
+}
+
+/// Whether a line is a clause of a contract.
+fn is_clause(line: &str) -> bool {
+    let line = line.trim_start();
+    line.starts_with("requires ") || line.starts_with("ensures ")
 }
 
 /// What stands behind each `/` and `%`.

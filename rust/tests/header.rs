@@ -172,7 +172,7 @@ fn engine_declarations() -> Vec<Declaration> {
 
 /// The folder of the archive that this test is linked with.
 fn archive_folder() -> PathBuf {
-    option_env!("HERD_ARCHIVE_DIR").map_or_else(|| path("../target/staticlib"), PathBuf::from)
+    option_env!("HERD_ARCHIVE_DIR").map_or_else(|| path("../crates/herd_ffi/out"), PathBuf::from)
 }
 
 /// The names in the symbol index of an archive, which is its first member: a count and as many offsets, of four bytes

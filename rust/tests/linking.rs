@@ -20,7 +20,7 @@ fn room(name: &str) -> PathBuf {
 
 /// The archive that this test is linked with.
 fn archive() -> PathBuf {
-    let built = Path::new(env!("CARGO_MANIFEST_DIR")).join("../target/staticlib");
+    let built = Path::new(env!("CARGO_MANIFEST_DIR")).join("../crates/herd_ffi/out");
     let folder = option_env!("HERD_ARCHIVE_DIR").map_or(built, PathBuf::from);
     folder.join("libherd_ffi.a")
 }

@@ -1,16 +1,15 @@
 -- Adding as the loops do it is the rule: the words that they leave and the cells that they count.
-use mathlib.Core.Path.{◌≡◌, refl, sym, ap, ap₂, ◌∙◌, subst}
+use mathlib.Core.Path.{◌≡◌, refl, sym, ap, ap₂, ◌∙◌}
 use mathlib.Core.Bool.{Bool, true, false, cond, not}
 use mathlib.Core.Option.{none, some}
-use mathlib.Core.List.{List, [], ◌∷◌, ◌++◌, append-nil, Memᴰ}
+use mathlib.Core.List.{List, [], ◌∷◌, ◌++◌, append-nil}
 use Prim.Native.Nat.{ℕ, ◌+◌, ◌-◌, ◌*◌, ◌≤◌, ◌<◌}
 use native.Mathlib.Omega.{arith}
-use native.Mathlib.Nat.{le_of_eq}
 use lib.ListN.{length, get_or, take, drop, length-drop}
-use lib.Seq.{drop-drop, drop-length, take_all}
+use lib.Seq.{drop-length}
 use lib.Dec.{eqb}
-use Rattle.journeys.specs.Journey.{Contact, Interval, interval}
-use Rattle.journeys.specs.Cell.{Cell, Limits, latest_departure, earliest_arrival}
+use Rattle.journeys.specs.Journey.{Contact, interval}
+use Rattle.journeys.specs.Cell.{Cell, latest_departure, earliest_arrival}
 use Rattle.journeys.specs.Adding.{departure_of, arrival_of, enter_both, add}
 use Rattle.rules.specs.Limits.{max_ticks, max_carry, max_arrival}
 use Rattle.rules.specs.Folds.{flat, sum_below}
@@ -19,14 +18,14 @@ use Rattle.rules.specs.Checks.{ValidTable}
 use Rattle.rules.specs.Adding.{Legal, stands, same_cell, cells_changed, add_refusal, added_cells, holds, add_leaves}
 use Rattle.rules.proofs.Folds.{flat-length, flat-same, sum_same, count_same}
 use Rattle.rules.proofs.Decode.{cell-length}
-use Rattle.rules.proofs.Sound.{table-sizes, opens-first, opens-length, part_length, part-words, passes-good}
+use Rattle.rules.proofs.Sound.{table-sizes, opens-first, opens-length, part_length, part-words}
 use Rattle.rules.proofs.Judged.{add_iff}
 use Rattle.rules.proofs.Changes.{same_cell-refl}
 use Rattle.rules.proofs.Demand1.{added-good}
 use Rattle.grid.specs.Parts.{part, parts}
 use Rattle.grid.proofs.Flat.{parts-flat}
 use Rattle.grid.specs.Cells.{Grid}
-use Rattle.grid.proofs.Places.{rest-lent, cell_in_lem, cell-from, grid-long, from-long}
+use Rattle.grid.proofs.Places.{cell_in_lem, cell-from, grid-long, from-long}
 use Rattle.cells.specs.Stored.{Stored, or_zero}
 use Rattle.tables.proofs.Stored.{cell-read, cell-limits, stored-cells}
 use Rattle.tables.proofs.Ticks.{Tick, tick-cond, latest-tick, earliest-tick}

@@ -1,5 +1,7 @@
 // Adding a contact to a table that passed its checks: the departures d(x) and the arrivals e(y) are taken from the table
 // before the call, then every pair's interval enters its cell.
+#![tactic(auto)]
+
 mod ends;
 mod steps;
 

@@ -1,5 +1,7 @@
 // Adding a contact to a table that passed its checks and counting it where it is new; proofs/ has what loops that add lists
 // of contacts need.
+#![tactic(auto)]
+
 ghost use Rattle.std.specs.Prelude.{◌≡◌, [], ◌∷◌};
 ghost use Rattle.journeys.specs.Journey.{contact};
 ghost use Rattle.rules.specs.CallLists.{engine, run, new_adds};

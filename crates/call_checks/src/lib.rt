@@ -1,4 +1,6 @@
 // All checks of each call on an open table but stays: its groups, one after the other. Nothing is written.
+#![tactic(auto)]
+
 ghost use Rattle.std.specs.Prelude.{◌≡◌};
 ghost use Rattle.std.proofs.Math.Option.{none};
 ghost use Rattle.journeys.specs.Journey.{contact};

@@ -1,4 +1,6 @@
 // The check of one cell in lent memory: a row, the rows in use, the unused words, and the whole cell.
+#![tactic(auto)]
+
 ghost use Rattle.std.specs.Prelude.{◌≡◌, ◌+◌, ◌≤◌, length};
 ghost use Rattle.rules.specs.Limits.{max_ticks, max_carry};
 ghost use Rattle.rules.specs.Checks.{row_well_formed, rows_well_formed, all_unused, cell_well_formed};

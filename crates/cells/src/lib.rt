@@ -1,4 +1,6 @@
 // One cell in lent memory: the search for a row, and whether an interval of the cell fits a window.
+#![tactic(auto)]
+
 ghost use Rattle.std.specs.Prelude.{◌≡◌, ◌+◌, ◌≤◌, map, length, get_or};
 ghost use Rattle.journeys.specs.Journey.{interval};
 ghost use Rattle.journeys.specs.Cell.{Rising, latest_departure, earliest_arrival, has_inside};

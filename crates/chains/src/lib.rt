@@ -1,4 +1,6 @@
 // The chain of a yes: document 01's rule from animal to animal, collected in a local array and written when it is whole.
+#![tactic(auto)]
+
 mod pairs;
 mod steps;
 

@@ -1,5 +1,7 @@
 // The groups of checks: one function judges one group, and a call's checks are its groups one after the other. Nothing is
 // written.
+#![tactic(auto)]
+
 pub mod groups;
 
 ghost use Rattle.std.specs.Prelude.{◌≡◌};

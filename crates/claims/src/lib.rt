@@ -1,4 +1,6 @@
 // The check of a claimed chain.
+#![tactic(auto)]
+
 mod held;
 
 ghost use Rattle.std.specs.Prelude.{◌≡◌};

@@ -1,4 +1,6 @@
 // An interval enters a cell in lent memory.
+#![tactic(auto)]
+
 mod moves;
 mod places;
 

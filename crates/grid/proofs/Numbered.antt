@@ -1,7 +1,7 @@
 -- The cells of a grid by their numbers: cell (u, v) of n animals has the number u·n + v.
 use mathlib.Core.Path.{◌≡◌, sym, ap, ◌∙◌}
 use mathlib.Core.List.{List, ◌++◌, append-nil, append_assoc}
-use Prim.Native.Nat.{ℕ, zero, suc, ◌+◌, ◌-◌, ◌*◌}
+use Prim.Native.Nat.{ℕ, zero, suc, ◌+◌, ◌*◌}
 use native.Mathlib.Nat.{suc-mul, zero-mul, add-zero, add-suc}
 use Rattle.rules.specs.Folds.{flat}
 

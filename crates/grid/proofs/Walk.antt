@@ -7,7 +7,7 @@ use native.Mathlib.Omega.{arith}
 use lib.ListN.{length, take, drop, length-append}
 use lib.Seq.{drop_at, drop-drop, length-take-le}
 use borrow.Rule.Slice.PartMut.{same_len_mid}
-use Rattle.grid.specs.Parts.{part, put, parts}
+use Rattle.grid.specs.Parts.{part, parts}
 use Rattle.grid.proofs.Places.{lent-words, lent_length}
 use Rattle.grid.proofs.Reading.{Through, through-start, through-room, through-turn}
 

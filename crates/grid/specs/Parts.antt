@@ -1,5 +1,5 @@
 -- A list in parts of equal size, as a loop over lent parts sees it.
-use Rattle.std.specs.Prelude.{ℕ, zero, suc, ◌*◌, List, [], ◌++◌, take, drop}
+use Rattle.std.specs.Prelude.{ℕ, zero, suc, ◌*◌, List, ◌++◌, take, drop}
 
 -- The k-th part of s elements.
 abbrev pub part : ℕ → ℕ → List ℕ → List ℕ

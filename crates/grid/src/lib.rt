@@ -1,5 +1,7 @@
 // n × n cells of s words, without knowledge of what a cell means: where a cell lies, the cell lent as a part, and the step
 // from one cell to the next with its pair.
+#![tactic(auto)]
+
 ghost use Rattle.std.specs.Prelude.{◌≡◌, ◌+◌, ◌*◌, ◌≤◌, ◌<◌, length};
 ghost use Rattle.rules.specs.Limits.{max_animals, max_cell_words, max_cells};
 ghost use Rattle.grid.specs.Cells.{cell_in};

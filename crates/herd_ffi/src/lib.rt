@@ -1,5 +1,7 @@
 // The C interface of the engine, for the Rust herd program. A slice is a pointer and a length in words. The reply's upper
 // 32 bits say which answer, the lower 32 its number: 0 is a refusal with its number; 1 and 2 are the answers of the call.
+#![tactic(auto)]
+
 ghost use Rattle.std.specs.Prelude.{◌≡◌};
 ghost use Rattle.journeys.specs.Journey.{contact};
 ghost use Rattle.rules.specs.Answers.{open_reply, add_reply, write_reply, read_reply, join_reply, stays_reply, done_reply, ask_reply, interval_reply, set_reply, chain_reply};

@@ -1,7 +1,7 @@
 -- A cell that covers what its pair can reach by a set of contacts alone lists the pair's minimal intervals, and the other way round. On top of
 -- any cells, the add rule takes what can be reached by a set of contacts to what can be reached with one contact more.
 use mathlib.Core.Path.{◌≡◌, refl, sym, subst, ◌∙◌}
-use mathlib.Core.Logic.{◌↔◌, ◌⊎◌, inl, inr, ⊎_elim, ◌≢◌}
+use mathlib.Core.Logic.{◌↔◌, inl, inr, ⊎_elim, ◌≢◌}
 use mathlib.Core.Bool.{Bool, cond}
 use mathlib.Core.Option.{Option, some}
 use mathlib.Core.List.Memᴰ

@@ -1,16 +1,16 @@
 -- What entering an interval does to a cell: to its members, to what it covers, to its order.
-use mathlib.Core.Path.{◌≡◌, refl, sym, ap}
+use mathlib.Core.Path.{◌≡◌}
 use mathlib.Core.Logic.{◌↔◌, ◌⊎◌, inl, inr, ⊎_elim}
-use mathlib.Core.Bool.{Bool, true, false, cond}
+use mathlib.Core.Bool.{Bool, cond}
 use mathlib.Core.Option.{Option, none, some}
-use mathlib.Core.List.{List, [], ◌∷◌, Memᴰ}
-use Prim.Native.Nat.{ℕ, ◌+◌, ◌≤◌, ◌<◌}
+use mathlib.Core.List.{[], ◌∷◌, Memᴰ}
+use Prim.Native.Nat.{ℕ, ◌≤◌, ◌<◌}
 use native.Mathlib.Omega.{arith}
 use Rattle.journeys.specs.Journey.{Interval, interval, Inside}
-use Rattle.journeys.specs.Cell.{Cell, Before, Rising, inside, has_inside, without_containing, put_in_order, enter}
+use Rattle.journeys.specs.Cell.{Cell, Before, Rising, without_containing, put_in_order, enter}
 use Rattle.journeys.specs.Adding.{enter_both}
 use Rattle.journeys.proofs.Tests.{Outcome, holds, fails, lt_outcome, inside-outcome}
-use Rattle.journeys.proofs.Cover.{Covers, here, there, covers-find, covers-member, member-covers, covers-wider, departure-path, arrival-path, NotBefore, NotAfter, has_inside-outcome}
+use Rattle.journeys.proofs.Cover.{Covers, here, there, covers-find, member-covers, covers-wider, departure-path, arrival-path, NotBefore, NotAfter, has_inside-outcome}
 
 -- ---- members
 

@@ -1,6 +1,6 @@
 -- The proofs of the theorems of specs/Theorems.antt.
 use mathlib.Core.Path.{◌≡◌, refl, sym, subst, ◌∙◌}
-use mathlib.Core.Logic.{◌↔◌, ◌⊎◌, inr, ⊎_elim, ◌≢◌}
+use mathlib.Core.Logic.{◌↔◌, inr, ⊎_elim, ◌≢◌}
 use mathlib.Core.List.{List, [], Memᴰ}
 use Prim.Native.Nat.{ℕ, ◌+◌, ◌≤◌}
 use native.Mathlib.Omega.{arith}

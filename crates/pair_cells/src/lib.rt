@@ -1,4 +1,6 @@
 // What is read off the cell of a pair, on a table that passed its checks.
+#![tactic(auto)]
+
 ghost use Rattle.std.specs.Prelude.{◌≡◌, ◌<◌, ◌≤◌};
 ghost use Rattle.journeys.specs.Journey.{contact, interval};
 ghost use Rattle.rules.specs.Limits.{max_ticks};

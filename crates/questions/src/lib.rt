@@ -1,5 +1,7 @@
 // Questions about windows and ticks. Each checks in document 01's order, and its answer is that of its rule, for every
 // input.
+#![tactic(auto)]
+
 ghost use Rattle.std.specs.Prelude.{◌≡◌};
 ghost use Rattle.std.proofs.Math.Option.{none};
 ghost use Rattle.rules.specs.Checks.{ValidTable};

@@ -1,5 +1,7 @@
 // Removing one contact from a table that passed its checks: the contacts that the table holds, less this one, are marked in a
 // second table, which is built over them and copied to the first.
+#![tactic(auto)]
+
 ghost use Rattle.std.specs.Prelude.{◌≡◌, [], ◌∷◌, ◌+◌, length};
 ghost use Rattle.journeys.specs.Journey.{contact, In, Without};
 ghost use Rattle.words.specs.Words.{interval_of};

@@ -1,12 +1,10 @@
 -- The bits of a sum of powers of two, each taken or not.
-use mathlib.Core.Path.{◌≡◌, refl, sym, ap, ◌∙◌, subst}
+use mathlib.Core.Path.{◌≡◌, sym, ap, ◌∙◌}
 use mathlib.Core.Bool.{Bool, true, false, cond}
 use Prim.Native.Nat.{ℕ, zero, suc, ◌+◌, ◌-◌, ◌*◌, ◌/◌, ◌%◌, ◌^◌, ◌≤◌, ◌<◌}
-use native.Mathlib.Nat.{add_assoc, add_comm, add-mul, mul_assoc, zero-add, zero-mul}
+use native.Mathlib.Nat.{add_comm, add-mul, mul_assoc, zero-add, zero-mul}
 use native.Mathlib.Omega.{arith}
-use lib.Pow.{pow-add, pow_pos}
-use Rattle.journeys.proofs.Tests.{Outcome, holds, fails, lt_outcome}
-use Rattle.words.specs.Layout.{Field, get}
+use lib.Pow.{pow-add}
 use Rattle.words.proofs.Fields.{get-field}
 use Rattle.rules.specs.Folds.{sum_below}
 

@@ -4,7 +4,7 @@ use mathlib.Core.Logic.{◌⊎◌, inl, inr, ⊎_elim, ◌≢◌}
 use mathlib.Core.Option.{Option, none, some}
 use mathlib.Core.List.Memᴰ
 use mathlib.Core.List.{List, [], ◌∷◌, Memᴰ}
-use Prim.Native.Nat.{ℕ, zero, suc, ◌+◌, ◌-◌, ◌≤◌, ◌<◌}
+use Prim.Native.Nat.{ℕ, zero, suc, ◌+◌, ◌≤◌, ◌<◌}
 use native.Mathlib.Nat.{le_refl}
 use native.Mathlib.Omega.{arith}
 use native.Mathlib.Decide.{ℕ_discrete, dec_le}
@@ -14,7 +14,7 @@ use Rattle.journeys.proofs.Tests.{never}
 use Rattle.journeys.proofs.Reach.{journey-carries}
 use Rattle.journeys.proofs.Cover.{departure-path, arrival-path}
 use Rattle.rules.specs.Layout.{animals}
-use Rattle.rules.specs.Chains.{Lead, nowhere, there, leads_on, leads, Lowest, animal, lowest, prepend, follow, chain_from}
+use Rattle.rules.specs.Chains.{Lead, nowhere, there, leads_on, leads, Lowest, animal, prepend, follow, chain_from}
 use Rattle.rules.specs.ChainRule.{StillHad, Candidate, LowestCandidate, LatestLeaving, IsChain, last, next}
 use Rattle.rules.specs.Orders.{Distinct}
 use Rattle.rules.specs.NamedChains.{leavers}

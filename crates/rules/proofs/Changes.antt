@@ -1,13 +1,11 @@
 -- What the tests on cells mean, and when entering changes a cell.
-use mathlib.Core.Path.{◌≡◌, refl, sym, ap, ap₂, ◌∙◌, subst}
-use mathlib.Core.Logic.{◌⊎◌, inl, inr, ⊎_elim, ◌≢◌}
-use mathlib.Core.Bool.{Bool, true, false, cond, not, ◌&&◌, ◌||◌}
+use mathlib.Core.Path.{◌≡◌, refl, sym, ap₂, subst}
+use mathlib.Core.Logic.{◌⊎◌, inr, ⊎_elim, ◌≢◌}
+use mathlib.Core.Bool.{Bool, true, cond}
 use mathlib.Core.List.Memᴰ
-use mathlib.Core.List.{List, [], ◌∷◌, Memᴰ, cons-eq-cons, cons≢nil}
-use Prim.Native.Nat.{ℕ, ◌≤◌, ◌<◌}
+use mathlib.Core.List.{[], ◌∷◌, Memᴰ, cons-eq-cons, cons≢nil}
 use native.Mathlib.Nat.{le_refl}
-use native.Mathlib.Omega.{arith}
-use Rattle.journeys.specs.Journey.{Interval, interval}
+use Rattle.journeys.specs.Journey.{Interval}
 use Rattle.journeys.specs.Cell.{Cell, has_inside, enter, put_in_order, without_containing}
 use Rattle.journeys.proofs.Tests.{Outcome, holds, fails, eq_outcome, and_outcome}
 use Rattle.journeys.proofs.Cover.{Covers, interval-path, departure-path, arrival-path, has_inside-outcome}

@@ -1,7 +1,6 @@
 -- Words packed and read again: a table of well-formed cells passes 5 and 6 and is read as it was.
 use mathlib.Core.Path.{◌≡◌, refl, sym, ap, ap₂, ◌∙◌, subst}
-use mathlib.Core.Logic.{◌≢◌}
-use mathlib.Core.Bool.{Bool, true, false, cond, ◌&&◌}
+use mathlib.Core.Bool.{true, cond}
 use mathlib.Core.List.Memᴰ
 use mathlib.Core.List.{List, [], ◌∷◌, ◌++◌, map, Memᴰ}
 use Prim.Native.Nat.{ℕ, zero, suc, ◌+◌, ◌-◌, ◌*◌, ◌≤◌, ◌<◌}
@@ -16,7 +15,7 @@ use Rattle.journeys.specs.Cell.{Cell, Before, Rising, Limits, WellFormedCell}
 use Rattle.journeys.specs.Adding.{Cells}
 use Rattle.journeys.proofs.Rows.{rows-suffice}
 use Rattle.words.specs.Layout.{capacity, get, is_of}
-use Rattle.words.specs.Words.{opening_layout, opening_word, animals_of, ticks_of, carry_of, count_layout, count_word, rows_field, interval_layout, interval_word, interval_of, departure_field, arrival_field, unused_layout, unused_word}
+use Rattle.words.specs.Words.{opening_layout, opening_word, animals_of, ticks_of, carry_of, count_word, rows_field, interval_word, interval_of, departure_field, arrival_field, unused_layout, unused_word}
 use Rattle.words.proofs.Packed.{interval_of-word, interval_word-is, animals_of-word, ticks_of-word, carry_of-word, opening_word-is, rows_of_word, count_word-is, unused_word-is}
 use Rattle.rules.specs.Limits.{max_ticks, max_carry}
 use Rattle.rules.specs.Folds.{flat, all_below}

@@ -1,6 +1,6 @@
 -- Fresh tables: they pass 5 and 6, are read as their cells, are the only ones over their set, and stay fresh under a legal add.
 use mathlib.Core.Path.{◌≡◌, refl, sym, ◌∙◌, subst}
-use mathlib.Core.Logic.{◌↔◌, ◌⊎◌, ⊎_elim, ◌≢◌}
+use mathlib.Core.Logic.{◌↔◌, ⊎_elim, ◌≢◌}
 use mathlib.Core.Option.{none}
 use mathlib.Core.List.{List, [], Memᴰ}
 use Prim.Native.Nat.{ℕ, ◌<◌}

@@ -1,7 +1,7 @@
 -- Tables laid out from well-formed cells: what is read off them, and what a list of calls leaves. A table that passes 5 and 6 is one, whether adds
 -- built it or not, and so is a fresh one.
 use mathlib.Core.Path.{◌≡◌, refl, sym, ap, ◌∙◌, subst}
-use mathlib.Core.Logic.{◌↔◌, ◌⊎◌, ⊎_elim}
+use mathlib.Core.Logic.{◌↔◌, ⊎_elim}
 use mathlib.Core.Bool.{Bool, true, false, cond, ◌&&◌}
 use mathlib.Core.Option.{Option, none, some}
 use mathlib.Core.List.Memᴰ

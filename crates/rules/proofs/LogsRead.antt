@@ -19,7 +19,6 @@ use Rattle.rules.specs.Answers.{read_answer_of, write_answer_of}
 use Rattle.rules.specs.Layout.{table_length, animals, ticks, carry}
 use Rattle.rules.specs.Logs.{held_contacts, log_words, write_refusal, write_answer, write_leaves}
 use Rattle.rules.specs.Fresh.{Fresh}
-use Rattle.rules.specs.Orders.{Sorted, Earlier}
 use Rattle.rules.specs.Reading.{logged_contacts, different, read_refusal, read_answer, read_leaves}
 use Rattle.rules.specs.Sheet.{most_bytes, words_of, too_large, table_text, is_beyond, log_text, sheet_text}
 use Rattle.rules.specs.LogsRead.{IsLog, LogsRead}

@@ -1,5 +1,5 @@
 -- A list of adds keeps the table fresh over the legal contacts so far, and a list of adds and removals over the set that it leaves.
-use mathlib.Core.Logic.{◌↔◌, ◌⊎◌, inl, inr, ⊎_elim}
+use mathlib.Core.Logic.{◌↔◌, inl, inr, ⊎_elim}
 use mathlib.Core.Path.{◌≡◌, refl, sym, ◌∙◌, subst}
 use mathlib.Core.Option.{Option, none, some}
 use mathlib.Core.List.Memᴰ

@@ -1,24 +1,21 @@
 -- The checks are sound: a table that passes 5 and 6 is its opening word and the packed words of its decoded cells.
 use mathlib.Core.Path.{◌≡◌, refl, sym, ap, ap₂, ◌∙◌, subst}
-use mathlib.Core.Logic.{◌≢◌}
 use mathlib.Core.Bool.{Bool, true, false, cond, ◌&&◌}
 use mathlib.Core.List.Memᴰ
 use mathlib.Core.List.{List, [], ◌∷◌, ◌++◌, map, Memᴰ}
-use mathlib.Core.Logic.{◌⊎◌, ⊎_elim}
-use Prim.Native.Nat.{ℕ, zero, suc, ◌+◌, ◌-◌, ◌*◌, ◌≤◌, ◌<◌}
+use mathlib.Core.Logic.{⊎_elim}
+use Prim.Native.Nat.{ℕ, ◌+◌, ◌-◌, ◌*◌, ◌≤◌, ◌<◌}
 use native.Mathlib.Omega.{arith}
-use native.Mathlib.Decide.{ℕ_discrete}
 use lib.ListN.{length, get_or, take, drop, replicate, length-map, length-drop, take-append-drop}
 use lib.Seq.{drop-drop, length-take-le}
 use lib.Dec.{ltb, leb, eqb}
-use borrow.Author.Tests.{eq-eqb, ne_eqb, eqb-true, leb-true, ltb-true}
+use borrow.Author.Tests.{eq-eqb, eqb-true, leb-true, ltb-true}
 use Rattle.journeys.specs.Journey.{Interval, interval}
-use Rattle.journeys.specs.Cell.{Cell, Before, Rising, Limits, WellFormedCell}
-use Rattle.journeys.specs.Adding.{Cells}
+use Rattle.journeys.specs.Cell.{Cell, Rising, Limits, WellFormedCell}
 use Rattle.words.specs.Layout.{get, is_of}
 use Rattle.words.specs.Words.{opening_layout, opening_word, count_layout, count_word, rows_field, interval_layout, interval_word, interval_of, departure_field, arrival_field, unused_layout, unused_word}
 use Rattle.words.proofs.Packed.{interval_word-of, opening_word-of, animals_of-bound, ticks_of-bound, carry_of-bound, count_word-of, unused_word-only}
-use Rattle.rules.specs.Folds.{flat, all_below}
+use Rattle.rules.specs.Folds.{all_below}
 use Rattle.rules.specs.Layout.{table_length, cell_words, table_words, animals, ticks, carry, cell_at, cell_of, cells_of}
 use Rattle.rules.specs.Opening.{Sizes}
 use Rattle.rules.specs.Checks.{is_open, row_well_formed, rows_well_formed, all_unused, cell_well_formed, well_formed, ValidTable, WellFormedBelow}

@@ -4,7 +4,7 @@ use Rattle.std.proofs.Math.Option.{Option}
 use Rattle.journeys.specs.Cell.{WellFormedCell}
 use Rattle.journeys.specs.Adding.{Cells}
 use Rattle.words.specs.Layout.{get, is_of}
-use Rattle.words.specs.Words.{opening_layout, count_layout, rows_field, interval_layout, departure_field, arrival_field, unused_layout, unused_word}
+use Rattle.words.specs.Words.{opening_layout, count_layout, rows_field, interval_layout, departure_field, arrival_field, unused_layout}
 use Rattle.rules.specs.Folds.{all_below}
 use Rattle.rules.specs.Layout.{table_length, animals, ticks, carry, cell_at}
 use Rattle.rules.specs.declared.Refusal.{Refusal}

@@ -1,6 +1,5 @@
 -- The check of a claimed chain (document 01, "Questions").
-use Rattle.std.specs.Prelude.{ℕ, ◌+◌, ◌≡◌, ◌↔◌, Bool, true, false, ◌&&◌, List, [], ◌∷◌, map, leb, ltb, eqb}
-use Rattle.std.proofs.Math.Option.{Option, none}
+use Rattle.std.specs.Prelude.{ℕ, ◌+◌, ◌≡◌, ◌↔◌, Bool, false, ◌&&◌, List, [], ◌∷◌, map, leb, ltb, eqb}
 use Rattle.journeys.specs.Journey.{Contact, Contacts, In, contacts_of}
 use Rattle.words.specs.Layout.{is_of}
 use Rattle.words.specs.Words.{contact_layout, contact_of, contact_word}

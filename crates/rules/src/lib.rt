@@ -1,5 +1,6 @@
 // What the calls answer. What each call replies and leaves stands in specs/, the laws in proofs/. This crate has no
 // function.
+#![tactic(auto)]
 
 // Why a call is refused. specs/Answers.antt gives each its number of documents 01 and 02.
 #[derive(Clone, Copy)]

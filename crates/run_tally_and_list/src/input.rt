@@ -1,7 +1,8 @@
 // The commands of the input: five words each, of four bytes, highest first.
 ghost use Rattle.std.specs.Prelude.{◌≤◌, length};
 
-use libc::STDIN_FILENO;
+use std::io;
+use std::io::Read;
 
 // A command: which it is, and its numbers.
 #[derive(Clone, Copy)]
@@ -40,14 +41,14 @@ fn command_of(bytes: &[u8]) -> Command
 }
 
 // Reads the next command.
-pub(crate) fn read_command() -> Next {
+pub(crate) fn read_command(reader: &mut impl Read) -> io::Result<Next> {
     let mut bytes = [0u8; Command::BYTES];
-    let n = io::read_full(STDIN_FILENO, &mut bytes);
+    let n = filling::read_full(reader, &mut bytes)?;
     if n == 0 {
-        return Next::End;
+        return Ok(Next::End);
     }
     if n < Command::BYTES {
-        return Next::CutShort;
+        return Ok(Next::CutShort);
     }
-    Next::Whole(command_of(&bytes))
+    Ok(Next::Whole(command_of(&bytes)))
 }

@@ -19,64 +19,78 @@
 //
 // A reply is two numbers: which answer, and its number. The lines `too large`, `no such command`, `cut short` and `too many`
 // end the run.
+#![tactic(auto)]
+
 mod commands;
 mod input;
 mod output;
 
-ghost use Rattle.std.specs.Prelude.{◌≡◌, length};
+ghost use Rattle.std.specs.Prelude.{◌≡◌, length, IfOk};
 ghost use Rattle.run_tally_and_list.specs.Bounds.{most_table, Within};
 
 use commands::State;
 use input::{Command, Next};
+use std::io;
+use std::io::Read;
 
 // The most commands that are run.
 const MOST_COMMANDS: u32 = 1_000_000;
 
 // Runs the command that has this many before it, unless these are the most.
 fn run_within(
+    rt: &impl Print,
     memory: &mut [u32],
     work: &mut [u32],
     state: State,
     command: Command,
     before: u32,
-) -> State
+) -> io::Result<State>
     requires { (most_table ≡ length memory.old) × ((most_table ≡ length work.old) × Within state) }
-    ensures { Within result }
+    ensures { IfOk result Within }
 {
     if before >= MOST_COMMANDS {
-        return commands::stop(state, b"too many\n");
+        return commands::stop(rt, state, b"too many\n");
     }
-    commands::run(memory, work, state, command)
+    commands::run(rt, memory, work, state, command)
 }
 
 // Runs the next command of the input, which has this many before it.
-fn run_next(memory: &mut [u32], work: &mut [u32], state: State, before: u32) -> State
+fn run_next(
+    rt: &impl Print,
+    reader: &mut impl Read,
+    memory: &mut [u32],
+    work: &mut [u32],
+    state: State,
+    before: u32,
+) -> io::Result<State>
     requires { (most_table ≡ length memory.old) × ((most_table ≡ length work.old) × Within state) }
-    ensures { Within result }
+    ensures { IfOk result Within }
 {
-    let next = input::read_command();
+    let next = input::read_command(reader)?;
     match next {
-        Next::Whole(command) => run_within(memory, work, state, command, before),
-        Next::CutShort => commands::stop(state, b"cut short\n"),
-        Next::End => commands::stop(state, b""),
+        Next::Whole(command) => run_within(rt, memory, work, state, command, before),
+        Next::CutShort => commands::stop(rt, state, b"cut short\n"),
+        Next::End => commands::stop(rt, state, b""),
     }
 }
 
 // Runs the commands of the input, one after another, until they end.
-fn run_all(memory: &mut [u32], work: &mut [u32])
+fn run_all(rt: &(impl Input + Print), memory: &mut [u32], work: &mut [u32]) -> io::Result<()>
     requires { (most_table ≡ length memory.old) × (most_table ≡ length work.old) }
 {
+    let mut reader = rt.reader();
     let mut state = State::at_start();
     for before in 0..MOST_COMMANDS + 1 {
-        state = run_next(memory, work, state, before);
+        state = run_next(rt, &mut reader, memory, work, state, before)?;
         if state.ended {
-            return;
+            return Ok(());
         }
     }
+    Ok(())
 }
 
-fn main() {
+fn main(rt: HostRuntime) -> io::Result<()> {
     let mut memory = [0u32; State::MOST_TABLE];
     let mut work = [0u32; State::MOST_TABLE];
-    run_all(&mut memory, &mut work);
+    run_all(&rt, &mut memory, &mut work)
 }

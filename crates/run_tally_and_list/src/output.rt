@@ -1,11 +1,11 @@
 // What is written: lines of numbers in decimal, with one space between.
-ghost use Rattle.std.specs.Prelude.{◌+◌, ◌≤◌, ◌<◌, length};
+ghost use Rattle.std.specs.Prelude.{◌+◌, ◌≤◌, ◌<◌, length, IfOk};
 ghost use Rattle.question_lists.specs.Plans.{most_records};
 ghost use Rattle.run_tally_and_list.specs.Bounds.{most_text, most_number};
 
-use libc::STDOUT_FILENO;
 use question_lists::MOST_RECORDS;
 use rules::{Question, Tally};
+use std::io;
 
 // The bytes that are written at once.
 const MOST_TEXT: usize = 4096;
@@ -14,29 +14,29 @@ const MOST_TEXT: usize = 4096;
 const MOST_NUMBER: usize = 11;
 
 // Writes the text.
-pub(crate) fn print(text: &[u8]) {
-    io::write_all(STDOUT_FILENO, text);
+pub(crate) fn print(rt: &impl Print, text: &[u8]) -> io::Result<()> {
+    rt.write_all(text)
 }
 
 // Writes the first `at` bytes of the text where there is no room for a number behind them; says where one goes.
-fn make_room(text: &[u8], at: usize) -> usize
+fn make_room(rt: &impl Print, text: &[u8], at: usize) -> io::Result<usize>
     requires { (most_text ≤ length text.now) × (at ≤ most_text) }
-    ensures { result + most_number ≤ most_text }
+    ensures { IfOk result (λ r. r + most_number ≤ most_text) }
 {
     if at + MOST_NUMBER <= MOST_TEXT {
-        return at;
+        return Ok(at);
     }
-    print(&text[..at]);
-    0
+    print(rt, &text[..at])?;
+    Ok(0)
 }
 
 // Puts the number and the byte behind it into the text at `at`, and says where the next goes.
-fn put_number(text: &mut [u8], at: usize, n: u32, behind: u8) -> usize
+fn put_number(rt: &impl Print, text: &mut [u8], at: usize, n: u32, behind: u8) -> io::Result<usize>
     requires { (most_text ≤ length text.old) × (at ≤ most_text) }
-    ensures { result ≤ most_text }
+    ensures { IfOk result (λ r. r ≤ most_text) }
 {
-    let from = make_room(text, at);
-    from + table_text::put_then(n, behind, &mut text[from..])
+    let from = make_room(rt, text, at)?;
+    Ok(from + table_text::put_then(n, behind, &mut text[from..]))
 }
 
 // The byte behind number i of n.
@@ -47,18 +47,17 @@ fn byte_behind(i: usize, n: usize) -> u8
 }
 
 // Writes the numbers as a line.
-pub(crate) fn print_numbers(numbers: &[u32]) {
+pub(crate) fn print_numbers(rt: &impl Print, numbers: &[u32]) -> io::Result<()> {
     if numbers.len() == 0 {
-        print(b"\n");
-        return;
+        return print(rt, b"\n");
     }
     let mut text = [0u8; MOST_TEXT];
     let mut at = 0;
     for i in 0..numbers.len() {
         let behind = byte_behind(i, numbers.len());
-        at = put_number(&mut text, at, numbers[i], behind);
+        at = put_number(rt, &mut text, at, numbers[i], behind)?;
     }
-    print(&text[..at]);
+    print(rt, &text[..at])
 }
 
 // Which answer a reply is.
@@ -72,41 +71,52 @@ fn number_of(reply: u64) -> u32 {
 }
 
 // Writes a reply as a line.
-pub(crate) fn print_reply(reply: u64) {
-    print_numbers(&[which_of(reply), number_of(reply)]);
+pub(crate) fn print_reply(rt: &impl Print, reply: u64) -> io::Result<()> {
+    print_numbers(rt, &[which_of(reply), number_of(reply)])
 }
 
 // Writes the reply and the tally of a counted call as a line.
-pub(crate) fn print_counted(reply: u64, tally: Tally) {
-    print_numbers(&[
-        which_of(reply),
-        number_of(reply),
-        tally.new,
-        tally.known,
-        tally.refused,
-        tally.removed,
-    ]);
+pub(crate) fn print_counted(rt: &impl Print, reply: u64, tally: Tally) -> io::Result<()> {
+    print_numbers(
+        rt,
+        &[
+            which_of(reply),
+            number_of(reply),
+            tally.new,
+            tally.known,
+            tally.refused,
+            tally.removed,
+        ],
+    )
 }
 
 // Writes a record as a line.
-fn print_record(q: Question) {
+fn print_record(rt: &impl Print, q: Question) -> io::Result<()> {
     let answer = q.answer;
     let reply = replies::of_record(answer);
-    print_numbers(&[
-        q.from,
-        q.to,
-        q.first,
-        q.last,
-        which_of(reply),
-        number_of(reply),
-    ]);
+    print_numbers(
+        rt,
+        &[
+            q.from,
+            q.to,
+            q.first,
+            q.last,
+            which_of(reply),
+            number_of(reply),
+        ],
+    )
 }
 
 // Writes the first `count` records, a line each.
-pub(crate) fn print_records(records: [Question; MOST_RECORDS], count: usize)
+pub(crate) fn print_records(
+    rt: &impl Print,
+    records: [Question; MOST_RECORDS],
+    count: usize,
+) -> io::Result<()>
     requires { count ≤ most_records }
 {
     for i in 0..count {
-        print_record(records[i]);
+        print_record(rt, records[i])?;
     }
+    Ok(())
 }

@@ -1,4 +1,6 @@
 // The checks of a list of stays. Nothing is written.
+#![tactic(auto)]
+
 ghost use Rattle.std.specs.Prelude.{◌≡◌, ◌/◌, ◌<◌, length};
 ghost use Rattle.std.proofs.Math.Option.{none};
 ghost use Rattle.rules.specs.Stays.{stay_at, stays_of, is_stay, ensure_each, ensure_stays, stays_refusal};

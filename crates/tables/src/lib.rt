@@ -1,4 +1,6 @@
 // The opening of a table with its limits, the checks of an open table, its cells, and the words of a table just opened.
+#![tactic(auto)]
+
 ghost use Rattle.std.specs.Prelude.{◌≡◌, true, [], ◌+◌, ◌-◌, ◌*◌, ◌≤◌, ◌<◌, length};
 ghost use Rattle.words.specs.Words.{animals_of, ticks_of, carry_of};
 ghost use Rattle.rules.specs.Limits.{max_animals, max_ticks, max_carry};

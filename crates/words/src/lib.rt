@@ -1,5 +1,7 @@
 // The words of document 01, packed and unpacked. A word is of its kind when its top two bits say so and every bit that
 // its layout does not name is zero.
+#![tactic(auto)]
+
 ghost use Rattle.std.specs.Prelude.{◌≡◌, ◌<◌, ◌≤◌, ◌+◌};
 ghost use Rattle.journeys.specs.Journey.{interval, contact};
 ghost use Rattle.words.specs.Layout.{capacity, get, is_of};

@@ -7,7 +7,7 @@ use std::process::{Child, ChildStdin, Command, Stdio};
 use std::thread;
 use std::time::Duration;
 
-/// A program of the tree, built by `rt check`.
+/// A program of the tree, built by `rt run` in its crate's folder.
 #[derive(Clone, Copy, Debug)]
 pub struct Program {
     /// Its name.
@@ -46,15 +46,16 @@ impl Program {
 
     /// Starts it on this input.
     fn start(self, input: Stdio) -> Child {
-        let folder = Path::new(env!("CARGO_MANIFEST_DIR")).join("../../target/bin");
-        let path: PathBuf = folder.join(self.name);
+        let crates = Path::new(env!("CARGO_MANIFEST_DIR")).join("../../crates");
+        let path: PathBuf = crates.join(self.name).join("out").join(self.name);
         let mut program = Command::new(&path);
         program.stdin(input).stdout(Stdio::piped());
         let started = program.stderr(Stdio::piped()).spawn();
         started.unwrap_or_else(|error| {
             panic!(
-                "{} does not start, run `rt check` first: {error}",
-                path.display()
+                "{} does not start, run `rt run` in crates/{} first: {error}",
+                path.display(),
+                self.name
             )
         })
     }
