@@ -24,6 +24,7 @@ pub fn has_room(tally: Tally) -> bool
 }
 
 // The tally with the one number raised by 1 that counts the answer of an add.
+#[tactic(auto, using(crate::proofs::Counts::room))]
 pub fn raise(tally: Tally, answer: AddAnswer) -> Tally
     requires { has_room tally ≡ true }
     ensures { result ≡ raised answer tally }
@@ -38,6 +39,7 @@ pub fn raise(tally: Tally, answer: AddAnswer) -> Tally
 }
 
 // The tally with the one number raised by 1 that counts the answer of a removal.
+#[tactic(auto, using(crate::proofs::Counts::room))]
 pub fn raise_by_removal(tally: Tally, answer: DoneAnswer) -> Tally
     requires { has_room tally ≡ true }
     ensures { result ≡ raised_by_removal answer tally }
