@@ -1,4 +1,6 @@
 // Counted removing: a thin function on a tally that the caller lends, over one that takes the tally by value.
+#![tactic(auto)]
+
 ghost use Rattle.std.specs.Prelude.{◌≡◌};
 ghost use Rattle.journeys.specs.Journey.{contact};
 ghost use Rattle.rules.specs.Counting.{counted_removal, counted_removal_leaves, counted_removal_work, counted_removal_tally};
