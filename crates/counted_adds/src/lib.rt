@@ -1,4 +1,6 @@
 // Counted adding: a thin function on a tally that the caller lends, over one that takes the tally by value.
+#![tactic(auto)]
+
 ghost use Rattle.std.specs.Prelude.{◌≡◌};
 ghost use Rattle.journeys.specs.Journey.{contact};
 ghost use Rattle.rules.specs.Counting.{counted_answer, counted_leaves, counted_tally};

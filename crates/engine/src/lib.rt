@@ -1,5 +1,7 @@
 // The calls of the engine. Each checks in the documents' order and refuses with nothing written, and its reply and every
 // lent word afterwards are those of its rule, for every input.
+#![tactic(auto)]
+
 ghost use Rattle.std.specs.Prelude.{◌≡◌};
 ghost use Rattle.journeys.specs.Journey.{contact};
 ghost use Rattle.rules.specs.Opening.{open_answer, open_leaves};

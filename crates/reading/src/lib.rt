@@ -1,4 +1,6 @@
 // Loading the contacts of a log that passed its checks: they are marked in the table just opened, then built tick by tick.
+#![tactic(auto)]
+
 ghost use Rattle.std.specs.Prelude.{◌≡◌};
 ghost use Rattle.std.proofs.Math.Option.{none};
 ghost use Rattle.rules.specs.Layout.{animals, ticks, carry};

@@ -1,5 +1,7 @@
 // Adding the contacts of stays to a table, where both passed their checks. Tick by tick one pass over the records marks the
 // pens of each animal, and the contacts of every two different animals that share a pen are added.
+#![tactic(auto)]
+
 ghost use Rattle.std.specs.Prelude.{◌≡◌, ◌/◌, ◌≤◌, ◌<◌, length};
 ghost use Rattle.std.proofs.Math.Option.{none};
 ghost use Rattle.rules.specs.Limits.{max_animals, max_ticks, max_pen};

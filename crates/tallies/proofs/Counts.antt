@@ -17,6 +17,9 @@ pub room-left : (t : Tally) → has_room t ≡ true → t.new + t.known + t.refu
 unfolding has_room tally_sum
 room-left t e = ltb-true (t.new + t.known + t.refused + t.removed) full_tally e
 
+-- What follows where a tally has room.
+pub ruleset room = (room-left)
+
 -- The tally of four numbers.
 abbrev tally_of : ℕ → ℕ → ℕ → ℕ → Tally
 tally_of n k r d = record { new = n; known = k; refused = r; removed = d }

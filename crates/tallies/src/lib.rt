@@ -1,4 +1,6 @@
 // The tally of counted calls: whether it has room for one more, and which of its numbers a call raises.
+#![tactic(auto)]
+
 ghost use Rattle.std.specs.Prelude.{◌≡◌, true};
 ghost use Rattle.rules.specs.Counting.{tally_sum, has_room, raised, raised_by_removal};
 
@@ -22,6 +24,7 @@ pub fn has_room(tally: Tally) -> bool
 }
 
 // The tally with the one number raised by 1 that counts the answer of an add.
+#[tactic(auto, using(crate::proofs::Counts::room))]
 pub fn raise(tally: Tally, answer: AddAnswer) -> Tally
     requires { has_room tally ≡ true }
     ensures { result ≡ raised answer tally }
@@ -36,6 +39,7 @@ pub fn raise(tally: Tally, answer: AddAnswer) -> Tally
 }
 
 // The tally with the one number raised by 1 that counts the answer of a removal.
+#[tactic(auto, using(crate::proofs::Counts::room))]
 pub fn raise_by_removal(tally: Tally, answer: DoneAnswer) -> Tally
     requires { has_room tally ≡ true }
     ensures { result ≡ raised_by_removal answer tally }

@@ -1,6 +1,5 @@
 -- `add_meetings` meets its contract. The loop's invariant: the contacts from the animals passed are added. The measure is how many animals
 -- are left.
-use Prim.Native.Nat.{◌-◌}
 use native.Mathlib.Omega.{arith}
 use Rattle.adding_lists.proofs.Adds.{below-start, below-addable, below-few, below-turn, below-kept, below_end}
 use Rattle.stays.specs.Meetings.{meetings_at}

@@ -1,6 +1,5 @@
 -- `add_meetings_from` meets its contract. The loop's invariant: the contacts with the animals passed are added. The measure is how many
 -- animals are left.
-use Prim.Native.Nat.{◌-◌}
 use native.Mathlib.Omega.{arith}
 use Rattle.adding_lists.proofs.Adds.{none-added, below-start, below-addable, below-few, below-turn, below-kept, below_end}
 use Rattle.stays.specs.Meetings.{meetings_from}

@@ -1,5 +1,5 @@
 -- `add_stays` meets its contract. The loop's invariant: the contacts of the ticks passed are added. The measure is how many ticks are left.
-use Prim.Native.Nat.{ℕ, ◌-◌, ◌≤◌}
+use Prim.Native.Nat.{ℕ, ◌≤◌}
 use mathlib.Core.Path.{◌≡◌, sym, subst}
 use mathlib.Core.Option.{none}
 use mathlib.Core.List.{List}

@@ -1,5 +1,5 @@
 -- `pens_at` meets its contract. The loop's invariant: the pens of the records passed are marked. The measure is how many are left.
-use Prim.Native.Nat.{ℕ, ◌-◌, ◌/◌, ◌<◌}
+use Prim.Native.Nat.{ℕ, ◌/◌, ◌<◌}
 use mathlib.Core.Path.{◌≡◌, sym, subst}
 use mathlib.Core.List.{List}
 use native.Mathlib.Omega.{arith}
