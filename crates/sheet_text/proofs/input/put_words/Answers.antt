@@ -1,10 +1,8 @@
 -- `input::put_words` meets its contract. The loop's invariant: the words passed are written.
 use mathlib.Core.Path.{refl}
-use Prim.Native.Nat.{◌-◌}
 use native.Mathlib.Omega.{arith}
 use Rattle.sheet_text.proofs.Words.{words-start, words-room, words-turn, words-done}
 use Rattle.sheet_text.proofs.input.put_words.Goals as goal
-
 
 pub loop-i-init : goal.loop-i-init
 loop-i-init c = (refl, omega arith, words-start _ _ c.requires.1)

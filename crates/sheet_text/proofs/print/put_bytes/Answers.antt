@@ -1,11 +1,9 @@
 -- `print::put_bytes` meets its contract. The loop's invariant: the bytes passed are written.
 use mathlib.Core.Path.{refl}
-use Prim.Native.Nat.{◌-◌}
 use native.Mathlib.Omega.{arith}
 use Rattle.table_text.proofs.Writing.{start}
 use Rattle.sheet_text.proofs.Words.{bytes-turn, bytes-room, bytes-done}
 use Rattle.sheet_text.proofs.print.put_bytes.Goals as goal
-
 
 pub loop-i-init : goal.loop-i-init
 loop-i-init c = (refl, omega arith, start _ _ _ refl c.requires)
