@@ -1,5 +1,7 @@
 // The replies of the C interface: for each type of answer, which answer it is in the upper 32 bits and its number in the
 // lower 32. The words of a set are written where the caller lends room for them.
+#![tactic(auto)]
+
 ghost use Rattle.std.specs.Prelude.{◌≡◌, ◌<◌, ◌^◌};
 ghost use Rattle.rules.specs.Answers.{reply, number_of, open_reply, add_reply, write_reply, read_reply, join_reply, stays_reply, done_reply, ask_reply, interval_reply, set_reply, chain_reply, list_reply, record_reply};
 ghost use Rattle.rules.specs.Questions.{set_over};
