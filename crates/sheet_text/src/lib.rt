@@ -1,4 +1,6 @@
 // What the printing program prints for the bytes of its input.
+#![tactic(auto)]
+
 mod input;
 mod print;
 

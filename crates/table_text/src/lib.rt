@@ -1,4 +1,6 @@
 // The text of a table, written to the front of a lent buffer.
+#![tactic(auto)]
+
 mod cell;
 
 ghost use Rattle.std.specs.Prelude.{◌≡◌, [], ◌∷◌, ◌++◌, ◌+◌, ◌≤◌, ◌<◌, length};
