@@ -1,5 +1,5 @@
 -- The eight bytes of the word and the space are stored one by one, and the number with the end of the line goes behind them.
-use Rattle.std.proofs.Common.{◌≡◌, refl, ℕ, ◌≤◌, List, [], ◌∷◌, ◌++◌, length, take, arith}
+use Rattle.std.proofs.Common.{refl, ℕ, ◌≤◌, List, [], ◌∷◌, ◌++◌, length, take, arith}
 use Rattle.std.proofs.Math.Seq.{sets, length-sets}
 use Rattle.rules.specs.Sheet.{decimal, space, newline, refused_text}
 use Rattle.table_text.proofs.Writing.{Writing, inside, start, bytes, number_fits, number, end}

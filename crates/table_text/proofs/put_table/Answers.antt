@@ -1,12 +1,7 @@
 -- The first line goes first, and the lines of the cells behind it.
-use Rattle.std.proofs.Common.{◌≡◌, refl, ℕ, ◌+◌, ◌-◌, ◌≤◌, List, ◌++◌, length, take, drop, arith}
-use Rattle.rules.specs.Checks.{ValidTable}
-use Rattle.rules.specs.Layout.{ticks}
-use Rattle.rules.specs.Logs.{held_contacts}
-use Rattle.rules.specs.Sheet.{first_line, table_text}
-use Rattle.tables.proofs.TableRead.{Read, read_table, table-opened}
+use Rattle.std.proofs.Common.{refl, arith}
+use Rattle.tables.proofs.TableRead.{read_table, table-opened}
 use Rattle.tables.proofs.Stored.{lent-cells}
-use Rattle.table_text.specs.Lines.{grid_text}
 use Rattle.table_text.proofs.Writing.{inside, fits_whole, first, fits_last, last, end}
 use Rattle.table_text.proofs.Texts.{table-text}
 use Rattle.table_text.proofs.put_table.Goals as goal

@@ -1,5 +1,5 @@
 -- Each row's interval goes behind the part written.
-use Rattle.std.proofs.Common.{refl, get_or, arith}
+use Rattle.std.proofs.Common.{get_or, arith}
 use Rattle.words.specs.Words.{interval_of}
 use Rattle.rules.specs.Sheet.{interval_text}
 use Rattle.cells.proofs.RowLoop.{rows-begin, rows-turn}
