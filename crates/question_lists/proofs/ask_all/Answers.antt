@@ -1,5 +1,5 @@
 -- The records of the plan are answered one by one, each in its place.
-use Rattle.std.proofs.Common.{◌≡◌, ℕ, ◌+◌, ◌<◌, ◌≤◌, List, length, get_or, set, sym, ap, ◌∙◌, add-one, arith}
+use Rattle.std.proofs.Common.{◌≡◌, ℕ, ◌+◌, ◌<◌, ◌≤◌, List, length, get_or, set, ap, ◌∙◌, add-one, arith}
 use Rattle.rules.specs.declared.Question.{Question}
 use Rattle.rules.specs.Checks.{ValidTable}
 use Rattle.rules.specs.QuestionList.{asked, list_answer, list_leaves}
