@@ -1,4 +1,6 @@
 // Lists of question records, filled in their places. The table is checked once for the whole list.
+#![tactic(auto)]
+
 ghost use Rattle.std.specs.Prelude.{◌≡◌, ◌++◌, ◌≤◌, take, drop};
 ghost use Rattle.rules.specs.Checks.{ValidTable};
 ghost use Rattle.rules.specs.QuestionList.{record_answer_of, asked, list_answer, list_leaves};
