@@ -23,6 +23,7 @@ use Rattle.rules.proofs.Folds.{flat-same, flat-none}
 use Rattle.rules.proofs.Sound.{table-sizes}
 use Rattle.rules.proofs.Stays.{stays-iff, contacts-legal, contacts-few}
 use Rattle.adding_lists.specs.Contacts.{Addable}
+use Rattle.adding_lists.proofs.Adds.{none-added}
 use Rattle.adding_lists.proofs.Adds.{added-as}
 use Rattle.stays.specs.Meetings.{PensBy, shares_pen, meeting, meetings_from, meetings_at}
 use Rattle.stays.proofs.Pens.{shares-met}
@@ -34,6 +35,14 @@ module _ (pens : List ℕ) (u v t : ℕ) where
   pub own-none : u ≡ v → meeting pens t u v ≡ []
   unfolding meeting listed shares_pen
   own-none e = rw (eq-eqb u v e) refl
+
+  -- So its meeting adds no contact.
+  pub own-new : (T : List ℕ) → u ≡ v → 0 ≡ new_adds engine T (meeting pens t u v)
+  own-new T e = (none-added T _ (own-none e)).0
+
+  -- And its meeting leaves the table.
+  pub own-left : (T : List ℕ) → u ≡ v → T ≡ run engine T (meeting pens t u v)
+  own-left T e = (none-added T _ (own-none e)).1
 
   module _ (d : u ≢ v) where
     -- Two that share no pen do not meet.
@@ -120,3 +129,5 @@ module _ (T W : List ℕ) (e : stays_refusal T W ≡ none) where
               in_order = r.in_order;
             };
       }
+
+pub ruleset own = (own-new, own-left)

@@ -45,6 +45,7 @@ fn pens_at(stays: &[u32], t: u32) -> [u64; Opening::MAX_ANIMALS as usize]
 }
 
 // Adds the contact (u, v, t) where u and v differ and share a pen: 1 where it was new, else 0.
+#[tactic(auto, using(crate::proofs::Meetings::own))]
 fn add_meeting(
     table: &mut [u32],
     pens: &[u64; Opening::MAX_ANIMALS as usize],

@@ -3,14 +3,8 @@ use mathlib.Core.Path.{sym, subst}
 use native.Mathlib.Omega.{arith}
 use Rattle.adding_lists.specs.Contacts.{Addable}
 use Rattle.adding_lists.proofs.Adds.{none-added, added-as}
-use Rattle.stays.proofs.Meetings.{own-none, apart_none, shared-one}
+use Rattle.stays.proofs.Meetings.{apart_none, shared-one}
 use Rattle.stays.proofs.add_meeting.Goals as goal
-
-pub returns-then-u-v : goal.returns-then-u-v
-returns-then-u-v c =
-    let a = c.args in
-    let r = none-added a.table.now _ (own-none a.pens.now a.u a.v a.t (omega (arith, c.if-u-v.true))) in
-    record { value = r.0; table_after = r.1 }
 
 pub returns-then-shared-eq0 : goal.returns-then-shared-eq0
 returns-then-shared-eq0 c =
