@@ -18,7 +18,8 @@
 // 12 show work: writes the first a words of the second memory.
 //
 // A reply is two numbers: which answer, and its number. The lines `too large`, `no such command`, `cut short` and `too many`
-// end the run.
+// end the run. So does a read or a write that fails: its error is what the program ends with, no command is run after it, and
+// no other error comes.
 #![tactic(auto)]
 
 mod commands;

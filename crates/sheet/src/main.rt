@@ -1,4 +1,5 @@
-// Reads a log from standard input and writes its sheet to standard output.
+// Reads a log from standard input and writes its sheet to standard output. A read or a write that fails ends the program with
+// its error, and no other error comes.
 #![tactic(auto)]
 
 use sheet_text::Sheet;
