@@ -1,6 +1,6 @@
 -- Adding a contact as the loops do it: the cells from one animal after those from another, each cell's words replaced in their place.
 use Rattle.std.specs.Prelude.{ℕ, zero, suc, ◌-◌, ◌*◌, ◌<◌, ◌≡◌, Bool, false, cond, not, List, length, get_or, eqb}
-use Rattle.std.proofs.Math.Option.{Option, none, some}
+use mathlib.Core.Option.{Option, none, some}
 use Rattle.journeys.specs.Journey.{interval}
 use Rattle.journeys.specs.Cell.{Cell, latest_departure, earliest_arrival, has_inside}
 use Rattle.journeys.specs.Adding.{enter_both}

@@ -6,7 +6,7 @@ mod ends;
 mod steps;
 
 ghost use Rattle.std.specs.Prelude.{◌≡◌};
-ghost use Rattle.std.proofs.Math.Option.{none};
+ghost use mathlib.Core.Option.{none};
 ghost use Rattle.journeys.specs.Journey.{contact};
 ghost use Rattle.rules.specs.Layout.{animals, cells_of};
 ghost use Rattle.rules.specs.Adding.{add_refusal, holds, cells_changed, added_cells, add_leaves};

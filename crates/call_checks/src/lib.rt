@@ -2,7 +2,7 @@
 #![tactic(auto)]
 
 ghost use Rattle.std.specs.Prelude.{◌≡◌};
-ghost use Rattle.std.proofs.Math.Option.{none};
+ghost use mathlib.Core.Option.{none};
 ghost use Rattle.journeys.specs.Journey.{contact};
 ghost use Rattle.rules.specs.Checks.{ensure_table};
 ghost use Rattle.rules.specs.Adding.{ensure_pair, ensure_tick, add_refusal};

@@ -1,6 +1,6 @@
 -- The row of a cell that is looked for: its number and both its ends.
 use Rattle.std.specs.Prelude.{ℕ, zero, suc, ◌+◌, cond, length, get_or, ltb}
-use Rattle.std.proofs.Math.Option.{Option, none, some}
+use mathlib.Core.Option.{Option, none, some}
 use Rattle.journeys.specs.Journey.{Interval, interval}
 use Rattle.journeys.specs.Cell.{Cell}
 use Rattle.rules.specs.Answers.{ends}

@@ -1,6 +1,6 @@
 -- What the functions of the chain say: a lead and a next animal in numbers, and the words of a chain.
 use Rattle.std.specs.Prelude.{ℕ, zero, suc, Bool, true, false, List, map, take}
-use Rattle.std.proofs.Math.Option.{Option, none, some}
+use mathlib.Core.Option.{Option, none, some}
 use Rattle.journeys.specs.Journey.{Contact}
 use Rattle.words.specs.Words.{contact_word}
 use Rattle.rules.specs.Chains.{Lead, nowhere, there, leads_on, Lowest, nobody, animal}

@@ -1,6 +1,6 @@
 // The groups of checks that calls on an open table are made of, and how one follows another.
 ghost use Rattle.std.specs.Prelude.{◌≡◌, ◌&&◌, ◌-◌, leb, length, get_or};
-ghost use Rattle.std.proofs.Math.Option.{none};
+ghost use mathlib.Core.Option.{none};
 ghost use Rattle.rules.specs.declared.Refusal.TheVariants.{ChainBufferTooShort};
 ghost use Rattle.rules.specs.Answers.{ensure};
 ghost use Rattle.rules.specs.Layout.{animals};

@@ -5,7 +5,7 @@
 pub mod groups;
 
 ghost use Rattle.std.specs.Prelude.{◌≡◌};
-ghost use Rattle.std.proofs.Math.Option.{none};
+ghost use mathlib.Core.Option.{none};
 ghost use Rattle.rules.specs.Answers.{number_of};
 ghost use Rattle.rules.specs.Checks.{ensure_table};
 ghost use Rattle.rules.specs.Opening.{open_refusal};

@@ -1,6 +1,6 @@
 -- The add rule over all pairs (document 01, "Adding a contact"), and what the cells of a set of contacts are.
 use Rattle.std.specs.Prelude.{◌≡◌, ◌↔◌, ◌≢◌, cond, ℕ, ◌+◌, eqb}
-use Rattle.std.proofs.Math.Option.{Option, none, some}
+use mathlib.Core.Option.{Option, none, some}
 use mathlib.Core.List.{List, [], ◌∷◌, Memᴰ}
 use Rattle.journeys.specs.Journey.{Contact, Contacts, Interval, interval, Minimal}
 use Rattle.journeys.specs.Cell.{Cell, Rising, WellFormedCell, latest_departure, earliest_arrival, enter}

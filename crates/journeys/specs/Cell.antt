@@ -1,6 +1,6 @@
 -- Cells and what is asked of them (document 01, "Words of the table" and "Adding a contact").
 use Rattle.std.specs.Prelude.{Bool, false, cond, ◌&&◌, ◌||◌, ℕ, ◌+◌, ◌≤◌, ◌<◌, leb, ltb}
-use Rattle.std.proofs.Math.Option.{Option, none, some, map}
+use mathlib.Core.Option.{Option, none, some, map}
 use mathlib.Core.List.{List, [], ◌∷◌, Memᴰ}
 use Rattle.journeys.specs.Journey.{Interval}
 

@@ -2,7 +2,7 @@
 #![tactic(auto)]
 
 ghost use Rattle.std.specs.Prelude.{◌≡◌, ◌-◌, eqb, length, get_or};
-ghost use Rattle.std.proofs.Math.Option.{none};
+ghost use mathlib.Core.Option.{none};
 ghost use Rattle.journeys.specs.Journey.{contact};
 ghost use Rattle.rules.specs.declared.Refusal.TheVariants.{WrongLength, WrongEnd};
 ghost use Rattle.rules.specs.Answers.{ensure};

@@ -2,7 +2,7 @@
 #![tactic(auto)]
 
 ghost use Rattle.std.specs.Prelude.{◌≡◌};
-ghost use Rattle.std.proofs.Math.Option.{none};
+ghost use mathlib.Core.Option.{none};
 ghost use Rattle.rules.specs.Layout.{animals, ticks, carry};
 ghost use Rattle.rules.specs.CallLists.{table_with};
 ghost use Rattle.rules.specs.Reading.{logged_contacts, different, read_refusal};

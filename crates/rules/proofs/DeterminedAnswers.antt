@@ -66,10 +66,10 @@ module _ {Q R : Questions} {n τ δ : ℕ} {S : Contacts} {T : List ℕ} (f : Fr
   unfolding latest_answer
   latest_told u v last p h k = interval-told (moment_refusal T u v last) _ (moment_asked (valid-fresh f) u v last p h k)
 
-  same_count : (u first last : ℕ) → u < n → IsWindow τ first last → Q.reached_count_lem T u first last ≡ R.reached_count_lem T u first last
+  same_count : (u first last : ℕ) → u < n → IsWindow τ first last → Q.reached_count T u first last ≡ R.reached_count T u first last
   same_count u first last h w =
-      let c = a.reached_count_lem u first last h w in
-      let d = b.reached_count_lem u first last h w in
+      let c = a.reached_count u first last h w in
+      let d = b.reached_count u first last h w in
       let e = sorted-unique ◌<◌ (λ i l. omega arith) (λ i j k l m. omega arith) c.0 d.0 c.1 d.1 (λ i. (λ m. (d.2 i).1 ((c.2 i).0 m), λ m. (c.2 i).1 ((d.2 i).0 m))) in
       c.3 ∙ ap length e ∙ sym d.3
 
@@ -109,7 +109,7 @@ module _ {Q R : Questions} {n τ δ : ℕ} {S : Contacts} {T : List ℕ} (f : Fr
         reached = λ u first last h w. a.reached_found u first last h w ∙ sym (b.reached_found u first last h w);
         reached_bits = λ u first last h w i k.
             (let c = a.reached_bit u first last h w i k in let d = b.reached_bit u first last h w i k in (λ q. d.1 (c.0 q), λ q. c.1 (d.0 q)));
-        reached_count_lem = same_count;
+        reached_count = same_count;
         chain = same-chain;
       }
 

@@ -76,8 +76,8 @@ module _ (E : Engine) (Q : Questions) (d : Demand2 E Q) where
   same_bit : BitSet (reached_words table 0 1 2) 1 → BitSet (Q.reached_words table 0 1 2) 1
   same_bit h = (agree.reached_bits 0 1 2 (omega arith) whole 1 (omega arith)).1 h
 
-  same_count : Q.reached_count_lem table 0 1 2 ≡ reached_count table 0 1 2
-  same_count = agree.reached_count_lem 0 1 2 (omega arith) whole
+  same_count : Q.reached_count table 0 1 2 ≡ reached_count table 0 1 2
+  same_count = agree.reached_count 0 1 2 (omega arith) whole
 
 -- The table of four animals, two ticks and carry time 1 on which 3 is reached from 0 at tick 3 by way of 1 and of 2.
 abbrev loaded : List Contact
@@ -129,10 +129,10 @@ rejected_answers =
       arrives_after_last = λ E d. (let z : ◌≡◌ {A = ℕ} 23 12 = same-latest E arrives_after_last d 2 (omega arith) (omega arith) in omega arith);
       other_departure = λ E d. (let z : ◌≡◌ {A = ℕ} 13 23 = same-earliest E other_departure d 2 (omega arith) (omega arith) in omega arith);
       later_arrival = λ E d. (let z : ◌≡◌ {A = ℕ} 13 12 = same-earliest E later_arrival d 1 (omega arith) (omega arith) in omega arith);
-      other_arrival_lem = λ E d. (let z : ◌≡◌ {A = ℕ} 13 12 = same-latest E other_arrival d 2 (omega arith) (omega arith) in omega arith);
+      other_arrival = λ E d. (let z : ◌≡◌ {A = ℕ} 13 12 = same-latest E other_arrival d 2 (omega arith) (omega arith) in omega arith);
       earlier_departure = λ E d. (let z : ◌≡◌ {A = ℕ} 13 23 = same-latest E earlier_departure d 3 (omega arith) (omega arith) in omega arith);
       row_before = λ E d. (let z : ◌≡◌ {A = ℕ} 12 23 = same-earliest E row_before d 2 (omega arith) (omega arith) in omega arith);
-      row_behind_lem = λ E d. (let z : ◌≡◌ {A = ℕ} 23 12 = same-latest E row_behind d 2 (omega arith) (omega arith) in omega arith);
+      row_behind = λ E d. (let z : ◌≡◌ {A = ℕ} 23 12 = same-latest E row_behind d 2 (omega arith) (omega arith) in omega arith);
       always_connected = λ E d. (let z : ◌≡◌ {A = ℕ} 1 2 = same-connected E always_connected d in omega arith);
       reaches_nobody = λ E d. (let z : ◌≡◌ {A = ℕ} 0 1 = same_bit E reaches_nobody d refl in omega arith);
       counts_nobody = λ E d. (let z : ◌≡◌ {A = ℕ} 0 1 = same_count E counts_nobody d in omega arith);

@@ -1,6 +1,6 @@
 -- Counted adding (document 01, "Adding a contact") and counted removing (document 02, Seven): the tally and what it does.
 use Rattle.std.specs.Prelude.{ℕ, ◌+◌, Bool, List, ltb}
-use Rattle.std.proofs.Math.Option.{Option, none}
+use mathlib.Core.Option.{Option, none}
 use Rattle.journeys.specs.Journey.{Contact}
 use Rattle.rules.specs.declared.Refusal.{Refusal}
 use Rattle.rules.specs.declared.Refusal.TheVariants.{TallyFull}

@@ -32,7 +32,7 @@ pub record Questions : Type 0 where
   pub connected : List ℕ → ℕ → ℕ → AskAnswer
   pub reached : List ℕ → ℕ → ℕ → ℕ → SetAnswer
   pub reached_words : List ℕ → ℕ → ℕ → ℕ → List ℕ
-  pub reached_count_lem : List ℕ → ℕ → ℕ → ℕ → ℕ
+  pub reached_count : List ℕ → ℕ → ℕ → ℕ → ℕ
   pub chain : List ℕ → ℕ → ℕ → ℕ → ℕ → List ℕ → ChainAnswer
   pub chain_leaves : List ℕ → ℕ → ℕ → ℕ → ℕ → List ℕ → List ℕ
 
@@ -46,7 +46,7 @@ questions =
       connected = connected_answer;
       reached = reached_answer;
       reached_words = reached_words;
-      reached_count_lem = reached_count;
+      reached_count = reached_count;
       chain = chain_answer;
       chain_leaves = chain_leaves;
     }
@@ -96,8 +96,8 @@ module _ (Q : Questions) (n τ δ : ℕ) (S : Contacts) (T : List ℕ) where
     pub reached_found : (u first last : ℕ) → u < n → IsWindow τ first last → Q.reached T u first last ≡ Found
     pub reached_bit : (u first last : ℕ) → u < n → IsWindow τ first last
         → (i : ℕ) → i < max_animals → BitSet (Q.reached_words T u first last) i ↔ ReachedFrom S δ n u first last i
-    pub reached_count_lem : (u first last : ℕ) → u < n → IsWindow τ first last
-        → (l : List ℕ) × Sorted ◌<◌ l × ((i : ℕ) → Memᴰ i l ↔ ReachedFrom S δ n u first last i) × (Q.reached_count_lem T u first last ≡ length l)
+    pub reached_count : (u first last : ℕ) → u < n → IsWindow τ first last
+        → (l : List ℕ) × Sorted ◌<◌ l × ((i : ℕ) → Memᴰ i l ↔ ReachedFrom S δ n u first last i) × (Q.reached_count T u first last ≡ length l)
     -- "The chain shown for a yes is the one that document 01's rule names": a chain is named exactly when a journey fits; its
     -- number of contacts is the answer, and its words stand at the buffer's start.
     pub chain_named : (u v first last : ℕ) → IsPair n u v → Fits S δ u v first last ↔ ((l : List Contact) × NamedChain S δ u v first last l)

@@ -53,7 +53,7 @@ pub record AgreeOn (Q R : Questions) (n τ δ : ℕ) (T : List ℕ) : Type 0 whe
   pub reached : (u first last : ℕ) → u < n → IsWindow τ first last → Q.reached T u first last ≡ R.reached T u first last
   pub reached_bits : (u first last : ℕ) → u < n → IsWindow τ first last
       → (i : ℕ) → i < max_animals → BitSet (Q.reached_words T u first last) i ↔ BitSet (R.reached_words T u first last) i
-  pub reached_count_lem : (u first last : ℕ) → u < n → IsWindow τ first last → Q.reached_count_lem T u first last ≡ R.reached_count_lem T u first last
+  pub reached_count : (u first last : ℕ) → u < n → IsWindow τ first last → Q.reached_count T u first last ≡ R.reached_count T u first last
   pub chain : (u v first last : ℕ) → IsPair n u v → IsWindow τ first last → (B : List ℕ) → n ≤ length B + 1
       → (Q.chain T u v first last B ≡ R.chain T u v first last B) × (Q.chain_leaves T u v first last B ≡ R.chain_leaves T u v first last B)
 

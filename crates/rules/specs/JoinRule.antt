@@ -1,6 +1,6 @@
 -- What document 02, Two, promises of a join, with its sentences above the parts.
 use Rattle.std.specs.Prelude.{◌≡◌, ◌↔◌, ◌⊎◌, ◌≢◌, ℕ, get_or}
-use Rattle.std.proofs.Math.Option.{none, some}
+use mathlib.Core.Option.{none, some}
 use mathlib.Core.List.{List, Memᴰ}
 use Rattle.journeys.specs.Journey.{Contact, Contacts, In, Union}
 use Rattle.rules.specs.declared.Refusal.{Refusal}

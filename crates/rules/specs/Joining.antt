@@ -1,6 +1,6 @@
 -- Joining a second table into a first (document 02, Two).
 use Rattle.std.specs.Prelude.{ℕ, List, get_or, eqb}
-use Rattle.std.proofs.Math.Option.{Option, none}
+use mathlib.Core.Option.{Option, none}
 use Rattle.rules.specs.declared.Refusal.{Refusal}
 use Rattle.rules.specs.declared.Refusal.TheVariants.{DifferentOpenings}
 use Rattle.rules.specs.declared.JoinAnswer.{JoinAnswer}

@@ -1,6 +1,6 @@
 -- Writing a log (document 01, "Logs").
 use Rattle.std.specs.Prelude.{ℕ, ◌+◌, List, [], ◌∷◌, ◌++◌, map, length, get_or, drop, leb}
-use Rattle.std.proofs.Math.Option.{Option, none}
+use mathlib.Core.Option.{Option, none}
 use Rattle.journeys.specs.Journey.{Contact}
 use Rattle.words.specs.Words.{contact_word, end_word}
 use Rattle.rules.specs.declared.Refusal.{Refusal}

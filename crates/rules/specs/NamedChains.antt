@@ -1,7 +1,7 @@
 -- What else holds of the chain that document 01's rule names: its contacts and the window, its animals, its length, and what reach and the
 -- check of a claimed chain say of it.
 use Rattle.std.specs.Prelude.{ℕ, ◌+◌, ◌≤◌, ◌≡◌, ◌↔◌, List, [], ◌∷◌, map, length}
-use Rattle.std.proofs.Math.Option.{some}
+use mathlib.Core.Option.{some}
 use Rattle.journeys.specs.Journey.{Contact, Contacts}
 use Rattle.words.specs.Words.{contact_word}
 use Rattle.rules.specs.Fresh.{Fresh}

@@ -1,6 +1,6 @@
 -- Opening a table (document 01, "Animals, ticks, carry time").
 use Rattle.std.specs.Prelude.{ℕ, ◌≤◌, List, [], length, eqb}
-use Rattle.std.proofs.Math.Option.{Option, none}
+use mathlib.Core.Option.{Option, none}
 use Rattle.journeys.specs.Adding.{Cells}
 use Rattle.rules.specs.declared.Refusal.{Refusal}
 use Rattle.rules.specs.declared.Refusal.TheVariants.{AnimalsBeyondLimit, TicksBeyondLimit, CarryBeyondLimit, WrongLength}

@@ -1,6 +1,6 @@
 -- A list of question records (document 01, "Questions").
 use Rattle.std.specs.Prelude.{ℕ, length}
-use Rattle.std.proofs.Math.Option.{Option, none, some}
+use mathlib.Core.Option.{Option, none, some}
 use mathlib.Core.List.{List, map}
 use Rattle.rules.specs.declared.Refusal.{Refusal}
 use Rattle.rules.specs.declared.AskAnswer.{AskAnswer}

@@ -1,6 +1,6 @@
 -- Reading a log (document 01, "Logs" and "Where each check sits").
 use Rattle.std.specs.Prelude.{ℕ, ◌+◌, ◌-◌, Bool, false, cond, not, ◌&&◌, ◌||◌, List, [], ◌∷◌, map, length, get_or, take, drop, leb, ltb, eqb}
-use Rattle.std.proofs.Math.Option.{Option, none, some}
+use mathlib.Core.Option.{Option, none, some}
 use Rattle.journeys.specs.Journey.{Contact}
 use Rattle.words.specs.Layout.{get, is_of}
 use Rattle.words.specs.Words.{opening_layout, contact_layout, contact_of, end_layout, logged_field}

@@ -1,6 +1,6 @@
 -- What document 02, Seven, promises of the removal of a contact.
 use Rattle.std.specs.Prelude.{◌≡◌, ◌↔◌, ◌≢◌, ℕ, length}
-use Rattle.std.proofs.Math.Option.{none, some}
+use mathlib.Core.Option.{none, some}
 use mathlib.Core.List.{List, Memᴰ}
 use Rattle.journeys.specs.Journey.{Contact, Contacts, In, Without}
 use Rattle.rules.specs.declared.Refusal.{Refusal}
@@ -21,7 +21,7 @@ pub record RemoveRule : Type 1 where
   -- then 7, 8 and 9, exactly where an add of the contact is refused with them;
   pub as_an_add : (T W : List ℕ) (k : Contact) (r : Refusal) → ValidTable T → length T ≡ length W → r ≢ NotHeld → (remove_answer T W k ≡ Refused r) ↔ (add_refusal T k ≡ some r)
   -- then 21, exactly when the contact is legal and the table does not hold it.
-  pub not_held_lem : (T W : List ℕ) (k : Contact)
+  pub not_held : (T W : List ℕ) (k : Contact)
       → (remove_answer T W k ≡ Refused NotHeld) ↔ (ValidTable T × (length T ≡ length W) × Legal (animals T) (ticks T) k × (¬ Memᴰ k (held_contacts T)))
   -- Of a contact that it holds, with a second table of its length, the removal is done.
   pub done_exactly : (T W : List ℕ) (k : Contact) → (remove_answer T W k ≡ Done) ↔ (ValidTable T × (length T ≡ length W) × Memᴰ k (held_contacts T))

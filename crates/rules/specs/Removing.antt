@@ -1,6 +1,6 @@
 -- Removing a contact, with a second table lent for work (document 02, Seven).
 use Rattle.std.specs.Prelude.{ℕ, not, ◌&&◌, List, length, eqb}
-use Rattle.std.proofs.Math.Option.{Option, none}
+use mathlib.Core.Option.{Option, none}
 use Rattle.journeys.specs.Journey.{Contact}
 use Rattle.journeys.specs.Adding.{cells_over}
 use Rattle.rules.specs.declared.Refusal.{Refusal}

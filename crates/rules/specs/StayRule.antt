@@ -1,6 +1,6 @@
 -- What document 02, Four, promises of a list of stays; above each part stands what it says. That nothing is added on a refusal is of demand 1.
 use Rattle.std.specs.Prelude.{◌≡◌, ◌↔◌, ◌⊎◌, ◌≢◌, true, ℕ, ◌%◌, ◌≤◌, ◌<◌, length}
-use Rattle.std.proofs.Math.Option.{none, some}
+use mathlib.Core.Option.{none, some}
 use mathlib.Core.List.{List, [], ◌∷◌, ◌++◌, Memᴰ}
 use Rattle.journeys.specs.Journey.{Contact, contact, Contacts, In, Union, Same}
 use Rattle.rules.specs.declared.Refusal.{Refusal}
@@ -81,7 +81,7 @@ pub record StayRule : Type 1 where
   pub added_exactly : (T W : List ℕ) → ((m : ℕ) × (stays_answer T W ≡ Added m)) ↔ (ValidTable T × AreStays (animals T) (ticks T) W)
   -- A contact is among those added exactly when two records say so; they are listed each once, in log order,
   pub contacts_exactly : (T W : List ℕ) → AreStays (animals T) (ticks T) W → Same (In (stay_contacts T W)) (Met (stays_of W))
-  pub in_log_order_lem : (T W : List ℕ) → Sorted Earlier (stay_contacts T W)
+  pub in_log_order : (T W : List ℕ) → Sorted Earlier (stay_contacts T W)
   -- and lead both ways.
   pub both_ways : (l : List Stay) (u v t : ℕ) → Met l (contact u v t) → Met l (contact v u t)
   -- The outcome is that of adding these contacts singly, on any table that passes 5 and 6, in log order or in any other, repeats or not.

@@ -1,7 +1,7 @@
 -- What it is to be a window and to fit one (document 02, Five and Six): which ticks are accepted, and that fitting, said of a journey's
 -- contacts, comes to the two ends of its interval.
 use Rattle.std.specs.Prelude.{ℕ, ◌≤◌, ◌≡◌, ◌↔◌, ◌⊎◌}
-use Rattle.std.proofs.Math.Option.{Option, some}
+use mathlib.Core.Option.{Option, some}
 use mathlib.Core.List.{List, Memᴰ}
 use Rattle.journeys.specs.Journey.{Contact, Contacts, Interval, Journey, contacts_of}
 use Rattle.rules.specs.declared.Refusal.{Refusal}

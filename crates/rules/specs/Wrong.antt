@@ -1,6 +1,6 @@
 -- Wrong engines that demands 2 and 3 shut out (document 01, last paragraph: "Reject"; removals, document 02, Seven).
 use Rattle.std.specs.Prelude.{ℕ, ◌+◌, Bool, true, false, cond, not, ◌&&◌, ◌||◌, List, [], ◌∷◌, ◌++◌, length, get_or, drop, eqb}
-use Rattle.std.proofs.Math.Option.{Option, none, some}
+use mathlib.Core.Option.{Option, none, some}
 use Rattle.journeys.specs.Journey.{Contact, Interval, interval}
 use Rattle.journeys.specs.Cell.{Cell, put_in_order, enter}
 use Rattle.journeys.specs.Adding.{Cells, departure_of, arrival_of, enter_both, cells_over}

@@ -1,7 +1,7 @@
 -- Wrong answers that demand 2 shuts out (document 01, last paragraph: "Reject").
 use Rattle.std.specs.Prelude.{ℕ, zero, suc, ◌+◌, ◌-◌, ◌≡◌, cond, List, [], ◌∷◌, map, replicate, leb, ltb}
-use Rattle.std.proofs.Math.Option
-use Rattle.std.proofs.Math.Option.{Option, none, some}
+use mathlib.Core.Option
+use mathlib.Core.Option.{Option, none, some}
 use Rattle.journeys.specs.Journey.{Contact, Interval, interval}
 use Rattle.journeys.specs.Cell.{Cell, later, latest_departing, earliest_arriving, has_inside}
 use Rattle.rules.specs.declared.AskAnswer.{AskAnswer}
@@ -30,7 +30,7 @@ questions_but reach connected words count earliest latest rule =
       connected = given connected questions.connected;
       reached = questions.reached;
       reached_words = given words questions.reached_words;
-      reached_count_lem = given count questions.reached_count_lem;
+      reached_count = given count questions.reached_count;
       chain = λ T u v first last B. chain_answer_of (chain_refusal T u v first last B) (given rule chain_of T u v first last);
       chain_leaves = λ T u v first last B. unless (chain_refusal T u v first last B) (chain_words (given rule chain_of T u v first last) B) B;
     }
@@ -214,10 +214,10 @@ pub record RejectedAnswers : Type 1 where
   pub arrives_after_last : (E : Engine) → ¬ Demand2 E arrives_after_last
   pub other_departure : (E : Engine) → ¬ Demand2 E other_departure
   pub later_arrival : (E : Engine) → ¬ Demand2 E later_arrival
-  pub other_arrival_lem : (E : Engine) → ¬ Demand2 E other_arrival
+  pub other_arrival : (E : Engine) → ¬ Demand2 E other_arrival
   pub earlier_departure : (E : Engine) → ¬ Demand2 E earlier_departure
   pub row_before : (E : Engine) → ¬ Demand2 E row_before
-  pub row_behind_lem : (E : Engine) → ¬ Demand2 E row_behind
+  pub row_behind : (E : Engine) → ¬ Demand2 E row_behind
   pub always_connected : (E : Engine) → ¬ Demand2 E always_connected
   pub reaches_nobody : (E : Engine) → ¬ Demand2 E reaches_nobody
   pub counts_nobody : (E : Engine) → ¬ Demand2 E counts_nobody

@@ -2,7 +2,7 @@
 #![tactic(auto)]
 
 ghost use Rattle.std.specs.Prelude.{◌≡◌, ◌/◌, ◌<◌, length};
-ghost use Rattle.std.proofs.Math.Option.{none};
+ghost use mathlib.Core.Option.{none};
 ghost use Rattle.rules.specs.Stays.{stay_at, stays_of, is_stay, ensure_each, ensure_stays, stays_refusal};
 ghost use Rattle.checks.specs.Verdicts.{verdict_of};
 

@@ -3,7 +3,7 @@
 #![tactic(auto)]
 
 ghost use Rattle.std.specs.Prelude.{◌≡◌, ◌/◌, ◌≤◌, ◌<◌, length};
-ghost use Rattle.std.proofs.Math.Option.{none};
+ghost use mathlib.Core.Option.{none};
 ghost use Rattle.rules.specs.Limits.{max_animals, max_ticks, max_pen};
 ghost use Rattle.rules.specs.CallLists.{engine, run, new_adds};
 ghost use Rattle.rules.specs.Stays.{stay_contacts, stays_refusal};

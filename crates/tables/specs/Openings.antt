@@ -1,6 +1,6 @@
 -- What the constructor of an opening gives.
 use Rattle.std.specs.Prelude.{ℕ}
-use Rattle.std.proofs.Math.Option.{Option, none, some}
+use mathlib.Core.Option.{Option, none, some}
 use Rattle.rules.specs.declared.Refusal.{Refusal}
 use Rattle.rules.specs.Opening.{ensure_sizes}
 use Rattle.tables.specs.declared.Opening.{Opening}
