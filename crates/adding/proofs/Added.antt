@@ -1,21 +1,23 @@
 -- Adding as the loops do it is the rule: the words that they leave and the cells that they count.
+use Rattle.std.specs.Prelude.{None, Some}
 use mathlib.Core.Path.{◌≡◌, refl, sym, ap, ap₂, ◌∙◌}
 use mathlib.Core.Bool.{Bool, true, false, cond, not}
-use mathlib.Core.Option.{none, some}
 use mathlib.Core.List.{List, [], ◌∷◌, ◌++◌, append-nil}
 use Prim.Native.Nat.{ℕ, ◌+◌, ◌-◌, ◌*◌, ◌≤◌, ◌<◌}
 use native.Mathlib.Omega.{arith}
 use lib.ListN.{length, get_or, take, drop, length-drop}
 use lib.Seq.{drop-length}
 use lib.Dec.{eqb}
-use Rattle.journeys.specs.Journey.{Contact, interval}
+use Rattle.journeys.specs.declared.Contact.{Contact}
+use Rattle.journeys.specs.Journey.{interval}
 use Rattle.journeys.specs.Cell.{Cell, latest_departure, earliest_arrival}
 use Rattle.journeys.specs.Adding.{departure_of, arrival_of, enter_both, add}
 use Rattle.rules.specs.Limits.{max_ticks, max_carry, max_arrival}
 use Rattle.rules.specs.Folds.{flat, sum_below}
 use Rattle.rules.specs.Layout.{cell_words, table_words, animals, ticks, carry, cell_at, cell_of, cells_of}
 use Rattle.rules.specs.Checks.{ValidTable}
-use Rattle.rules.specs.Adding.{Legal, stands, same_cell, cells_changed, add_refusal, added_cells, holds, add_leaves}
+use Rattle.rules.specs.declared.Added.TheVariants.{New, Known}
+use Rattle.rules.specs.Adding.{Legal, stands, same_cell, cells_changed, add_refusal, added_cells, holds, added, add_leaves}
 use Rattle.rules.proofs.Folds.{flat-length, flat-same, sum_same, count_same}
 use Rattle.rules.proofs.Decode.{cell-length}
 use Rattle.rules.proofs.Sound.{table-sizes, opens-first, opens-length, part_length, part-words}
@@ -25,17 +27,17 @@ use Rattle.rules.proofs.Demand1.{added-good}
 use Rattle.grid.specs.Parts.{part, parts}
 use Rattle.grid.proofs.Flat.{parts-flat}
 use Rattle.grid.specs.Cells.{Grid}
-use Rattle.grid.proofs.Places.{cell_in_lem, cell-from, grid-long, from-long}
-use Rattle.cells.specs.Stored.{Stored, or_zero}
+use Rattle.grid.proofs.Places.{cell_in_lem, cell-from, grid-long, from-long, rest-lent}
+use Rattle.cells.specs.Stored.{Stored}
 use Rattle.tables.proofs.Stored.{cell-read, cell-limits, stored-cells}
 use Rattle.tables.proofs.Ticks.{Tick, tick-cond, latest-tick, earliest-tick}
-use Rattle.adding.specs.Steps.{tick_by, departing, arriving, Listed, Below, tick_of, entered, entered_at, entered_from, changes_both, changes, changes_at, changes_from}
+use Rattle.adding.specs.Steps.{tick_by, departing, arriving, Listed, Departures, Arrivals, Below, tick_of, entered, entered_at, entered_from, changes_both, changes, changes_at, changes_from}
 use Rattle.adding.proofs.Listed.{listed_below, listed-read}
 use Rattle.adding.proofs.Turns.{changes-both}
 
 -- ---- an add that no check refuses
 
-module _ (T : List ℕ) (k : Contact) (ok : add_refusal T k ≡ none) where
+module _ (T : List ℕ) (k : Contact) (ok : add_refusal T k ≡ None) where
   -- The table passes its checks.
   passes : ValidTable T
   passes = ((add_iff T k).0 ok).0
@@ -61,13 +63,20 @@ module _ (T : List ℕ) (k : Contact) (ok : add_refusal T k ≡ none) where
   unfolding holds
   known_is = cell-read (stands (interval k.tick a)) T k.from k.to
 
+  -- What is answered of a known contact, and of a new one.
+  pub added-known : {b : Bool} {m : ℕ} → b ≡ holds T k → b ≡ true → m ≡ cells_changed (animals T) (cells_of T) (added_cells T k) → Known m ≡ added T k
+  added-known h t q = rw (sym h ∙ t) (ap Known q)
+
+  pub added-new : {b : Bool} {m : ℕ} → b ≡ holds T k → b ≡ false → m ≡ cells_changed (animals T) (cells_of T) (added_cells T k) → New m ≡ added T k
+  added-new h t q = rw (sym h ∙ t) (ap New q)
+
   -- The departures are those of the rule.
-  departure-is : (x : ℕ) → departing m s body k.from k.tick x ≡ or_zero (departure_of (cells_of T) k x)
+  departure-is : (x : ℕ) → departing m s body k.from k.tick x ≡ departure_of (cells_of T) k x
   unfolding departing departure_of cells_of
   departure-is x = ap (tick_by latest_departure k.from k.tick x) (cell_in_lem m (ticks T) T x k.from)
 
   -- The arrivals are those of the rule.
-  arrival-is : (y : ℕ) → arriving m s body k.to a y ≡ or_zero (arrival_of (carry T) (cells_of T) k y)
+  arrival-is : (y : ℕ) → arriving m s body k.to a y ≡ arrival_of (carry T) (cells_of T) k y
   unfolding arriving arrival_of cells_of
   arrival-is y = ap (tick_by earliest_arrival k.to a y) (cell_in_lem m (ticks T) T k.to y)
 
@@ -75,7 +84,7 @@ module _ (T : List ℕ) (k : Contact) (ok : add_refusal T k ≡ none) where
   departure-tick : (x : ℕ) → x < m → Tick s (departure_of (cells_of T) k x)
   unfolding departure_of
   departure-tick x h =
-      tick-cond s (eqb x k.from) (some k.tick) (latest_departure (cells_of T x k.from) k.tick)
+      tick-cond s (eqb x k.from) (Some k.tick) (latest_departure (cells_of T x k.from) k.tick)
       (omega (arith, legal.from_one, legal.to_last))
       (latest-tick s k.tick (cells_of T x k.from) (λ i q. let l = cell-limits T passes x k.from h legal.from_below i q in omega (arith, l.departs, l.in_time)))
 
@@ -84,7 +93,7 @@ module _ (T : List ℕ) (k : Contact) (ok : add_refusal T k ≡ none) where
   unfolding arrival_of
   arrival-tick y h =
       let z = table-sizes T in
-      tick-cond (max_arrival + 1) (eqb y k.to) (some a) (earliest_arrival (cells_of T k.to y) a)
+      tick-cond (max_arrival + 1) (eqb y k.to) (Some a) (earliest_arrival (cells_of T k.to y) a)
       (omega (arith, legal.from_one, legal.to_last, z.τ-high, z.δ-high))
       (earliest-tick (max_arrival + 1) a (cells_of T k.to y)
       (λ i q. let l = cell-limits T passes k.to y legal.to_below h i q in omega (arith, l.departs, l.carried, l.arrives, z.τ-high, z.δ-high)))
@@ -187,7 +196,7 @@ module _ (T : List ℕ) (k : Contact) (ok : add_refusal T k ≡ none) where
     unfolding changes_from cells_changed
     count-is = sum_same _ _ m (λ x h. count_same _ _ m (λ y j. changes-is x y h j))
 
--- ---- as the code reads the numbers and lends the words
+-- ---- as the code reads the numbers off the table and lends the words
 
 -- What an accepted add says of the numbers.
 pub record Accepted (T : List ℕ) (k : Contact) : Type 0 where
@@ -199,7 +208,7 @@ pub record Accepted (T : List ℕ) (k : Contact) : Type 0 where
   pub carry-small : carry T ≤ max_carry
 
 -- It follows from the checks.
-pub accepted : (T : List ℕ) (k : Contact) → add_refusal T k ≡ none → Accepted T k
+pub accepted : (T : List ℕ) (k : Contact) → add_refusal T k ≡ None → Accepted T k
 accepted T k ok =
     let p = passes T k ok in
     let l = legal T k ok in
@@ -213,47 +222,48 @@ accepted T k ok =
       carry-small = z.δ-high;
     }
 
--- The numbers read off the table, and the words after the first as they are lent.
-pub record Read (T : List ℕ) (k : Contact) (n s a : ℕ) (lent : List ℕ) : Type 0 where
-  pub animals-is : n ≡ animals T
-  pub size_is : s ≡ ticks T + 1
-  pub arrival-is : a ≡ k.tick + carry T
-  pub lent_is : lent ≡ drop 1 T
+-- The numbers read off B, which is the table.
+pub record Read (T : List ℕ) (k : Contact) (B : List ℕ) (n s a : ℕ) : Type 0 where
+  pub table_is : B ≡ T
+  pub animals-is : n ≡ animals B
+  pub size_is : s ≡ ticks B + 1
+  pub arrival-is : a ≡ k.tick + carry B
 
-module _ (T : List ℕ) (k : Contact) (ok : add_refusal T k ≡ none) {n s a : ℕ} {lent : List ℕ} (r : Read T k n s a lent) where
-  -- What holds of the table's numbers and words holds of those read.
-  as_read : (P : ℕ → ℕ → ℕ → List ℕ → Type 0) → P (animals T) (ticks T + 1) (k.tick + carry T) (drop 1 T) → P n s a lent
-  as_read P h = rw (r.animals-is, r.size_is, r.arrival-is, r.lent_is) h
+module _ (T : List ℕ) (k : Contact) (ok : add_refusal T k ≡ None) {B : List ℕ} {n s a : ℕ} (r : Read T k B n s a) where
+  -- The words after the first as they are lent.
+  abbrev rest : List ℕ
+  rest = take (length T - 1) (drop 1 T)
+
+  -- What holds of the table, its numbers and its words holds of those read.
+  as_read : (P : List ℕ → ℕ → ℕ → ℕ → List ℕ → Type 0) → P T (animals T) (ticks T + 1) (k.tick + carry T) (drop 1 T) → P B n s a rest
+  as_read P h = rw (r.animals-is, r.size_is, r.arrival-is, r.table_is, rest-lent T) h
 
   -- The words lent are as the loops over them ask.
-  pub read-cells : Grid Stored n s lent
-  read-cells = as_read (λ n s a l. Grid Stored n s l) (stored-cells T (passes T k ok))
+  pub read-cells : Grid Stored n s rest
+  read-cells = as_read (λ B n s a l. Grid Stored n s l) (stored-cells T (passes T k ok))
 
   -- The contact is known exactly when the table holds it.
-  pub read_known : {b : Bool} (xs : List ℕ) → xs ≡ cell_at (animals T) (ticks T) T k.from k.to → b ≡ stands (interval k.tick a) (cell_of xs) → b ≡ holds T k
-  read_known {b} xs = as_read (λ n s a l. xs ≡ cell_at (animals T) (ticks T) T k.from k.to → b ≡ stands (interval k.tick a) (cell_of xs) → b ≡ holds T k) (known_is T k ok xs)
+  pub read_known : {b : Bool} (xs : List ℕ) → xs ≡ cell_at (animals B) (ticks B) B k.from k.to → b ≡ stands (interval k.tick a) (cell_of xs) → b ≡ holds T k
+  read_known {b} xs = as_read (λ B n s a l. xs ≡ cell_at (animals B) (ticks B) B k.from k.to → b ≡ stands (interval k.tick a) (cell_of xs) → b ≡ holds T k) (known_is T k ok xs)
 
-  module _ (d e : List ℕ) where
+  module _ (d e : List ℕ) (hd : Departures B k.from k.tick d) (he : Arrivals B k.to a e) where
+    -- What follows from the departures and the arrivals of the table.
+    from_ticks : (P : ℕ → ℕ → List ℕ → Type 0)
+        → (Departures T k.from k.tick d → Arrivals T k.to (k.tick + carry T) e → P (animals T) (ticks T + 1) (drop 1 T)) → P n s rest
+    from_ticks P h = as_read (λ B n s a l. Departures B k.from k.tick d → Arrivals B k.to a e → P n s l) h hd he
+
     -- The ticks read lie within their limits.
-    pub read_below : Listed n (departing n s lent k.from k.tick) d → Listed n (arriving n s lent k.to a) e → Below n s d × Below n (max_arrival + 1) e
-    read_below =
-        as_read (λ n s a l. Listed n (departing n s l k.from k.tick) d → Listed n (arriving n s l k.to a) e → Below n s d × Below n (max_arrival + 1) e)
-        (λ hd he. (departures_below T k ok d e hd he, arrivals_below T k ok d e hd he))
+    pub read_below : Below n s d × Below n (max_arrival + 1) e
+    read_below = from_ticks (λ n s l. Below n s d × Below n (max_arrival + 1) e) (λ f g. (departures_below T k ok d e f g, arrivals_below T k ok d e f g))
 
     -- The cells counted are those that the rule changes.
-    pub read_count : {c : ℕ} → Listed n (departing n s lent k.from k.tick) d → Listed n (arriving n s lent k.to a) e
-        → c ≡ sum_below (changes_from n s d e lent) n → c ≡ cells_changed (animals T) (cells_of T) (added_cells T k)
+    pub read_count : {c : ℕ} → c ≡ sum_below (changes_from n s d e rest) n → c ≡ cells_changed (animals T) (cells_of T) (added_cells T k)
     read_count {c} =
-        as_read
-        (λ n s a l. Listed n (departing n s l k.from k.tick) d → Listed n (arriving n s l k.to a) e
-        → c ≡ sum_below (changes_from n s d e l) n → c ≡ cells_changed (animals T) (cells_of T) (added_cells T k))
-        (λ hd he q. q ∙ count-is T k ok d e hd he)
+        from_ticks (λ n s l. c ≡ sum_below (changes_from n s d e l) n → c ≡ cells_changed (animals T) (cells_of T) (added_cells T k))
+        (λ f g q. q ∙ count-is T k ok d e f g)
 
     -- The words left are those of the rule.
-    pub read-leaves : (new : List ℕ) → Listed n (departing n s lent k.from k.tick) d → Listed n (arriving n s lent k.to a) e
-        → new ≡ parts (entered_from n s d e) (n * s) n lent → take 1 T ++ (new ++ drop (length T - 1) (drop 1 T)) ≡ add_leaves T k
+    pub read-leaves : (new : List ℕ) → new ≡ parts (entered_from n s d e) (n * s) n rest → take 1 T ++ (new ++ drop (length T - 1) (drop 1 T)) ≡ add_leaves T k
     read-leaves new =
-        as_read
-        (λ n s a l. Listed n (departing n s l k.from k.tick) d → Listed n (arriving n s l k.to a) e
-        → new ≡ parts (entered_from n s d e) (n * s) n l → take 1 T ++ (new ++ drop (length T - 1) (drop 1 T)) ≡ add_leaves T k)
-        (λ hd he. leaves-is T k ok d e hd he new)
+        from_ticks (λ n s l. new ≡ parts (entered_from n s d e) (n * s) n l → take 1 T ++ (new ++ drop (length T - 1) (drop 1 T)) ≡ add_leaves T k)
+        (λ f g. leaves-is T k ok d e f g new)

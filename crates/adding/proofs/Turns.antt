@@ -1,8 +1,10 @@
 -- One cell's turn, and the turns of a loop that counts the cells that change.
+use Rattle.std.specs.Int.{from_bool}
+use Rattle.std.specs.Prelude.{Option, None, Some}
 use mathlib.Core.Path.{◌≡◌, refl, sym, ap, ap₂, ◌∙◌}
 use mathlib.Core.Bool.{Bool, true, false, cond, not}
-use mathlib.Core.Option.{Option, none, some}
 use mathlib.Core.List.{List}
+use mathlib.Core.Logic.{◌⊎◌, inl, inr}
 use Prim.Native.Nat.{ℕ, zero, suc, ◌+◌, ◌-◌, ◌*◌, ◌≤◌, ◌<◌}
 use native.Mathlib.Numerals.{add-one}
 use native.Mathlib.Omega.{arith}
@@ -26,50 +28,46 @@ use Rattle.adding.specs.Steps.{tick_of, entered, entered_at, changes_both, chang
 -- ---- a cell's turn
 
 -- A tick that is not 0 is one.
-tick_is : (t : ℕ) → 1 ≤ t → tick_of t ≡ some t
+tick_is : (t : ℕ) → 1 ≤ t → tick_of t ≡ Some t
 tick_is zero h = absurd (omega arith)
 tick_is (suc t) h = refl
 
 -- Without an arrival nothing enters.
-none-enters : (o : Option ℕ) (c : Cell) → enter_both o none c ≡ c
+none-enters : (o : Option ℕ) (c : Cell) → enter_both o None c ≡ c
 unfolding enter_both
-none-enters none c = refl
-none-enters (some d) c = refl
+none-enters None c = refl
+none-enters (Some d) c = refl
 
 -- Without an arrival nothing changes.
-none-changes : (o : Option ℕ) (c : Cell) → false ≡ changes_both o none c
-none-changes none c = refl
-none-changes (some d) c = refl
+none-changes : (o : Option ℕ) (c : Cell) → false ≡ changes_both o None c
+none-changes None c = refl
+none-changes (Some d) c = refl
 
--- What a turn leaves of the cell, and the number that it answers.
-pub record Turn (x y d a : ℕ) (xs : List ℕ) (r : ℕ) (ys : List ℕ) : Type 0 where
-  pub count : r ≡ cond (changes x y d a xs) 1 0
-  pub words : ys ≡ entered x y d a xs
+-- What a turn leaves of the cell, and whether it says that the cell changed.
+pub record Turn (x y d a : ℕ) (xs : List ℕ) (r : Bool) (ys : List ℕ) : Type 0 where
+  pub value : r ≡ changes x y d a xs
+  pub cell_after : ys ≡ entered x y d a xs
 
 module _ (x y d a : ℕ) (xs : List ℕ) where
-  -- Cell (x, x) stays as it was.
-  pub diagonal-turn : x ≡ y → Turn x y d a xs 0 xs
+  -- Cell (x, x) stays as it was, and so does a cell without an arrival.
+  pub idle_turn : Stored xs → (x ≡ y) ⊎ ((x ≡ y → ⊥) × (a ≡ 0)) → Turn x y d a xs false xs
   unfolding changes entered
-  diagonal-turn e = record { count = rw (eq-eqb x y e) refl; words = rw (eq-eqb x y e) refl }
-
-  -- So does a cell without an arrival.
-  pub idle_turn : Stored xs → (x ≡ y → ⊥) → a ≡ 0 → Turn x y d a xs 0 xs
-  unfolding changes entered
-  idle_turn s n e =
+  idle_turn s (inl e) = record { value = rw (eq-eqb x y e) refl; cell_after = rw (eq-eqb x y e) refl }
+  idle_turn s (inr (n, e)) =
       record {
-        count = rw (ne_eqb x y n, e) (ap (λ (b : Bool). cond b 1 0) (none-changes (tick_of d) (cell_of xs)));
-        words = rw (ne_eqb x y n, e) (s.words ∙ ap (cell_words (length xs - 1)) (sym (none-enters (tick_of d) (cell_of xs))));
+        value = rw (ne_eqb x y n, e) (none-changes (tick_of d) (cell_of xs));
+        cell_after = rw (ne_eqb x y n, e) (s.words ∙ ap (cell_words (length xs - 1)) (sym (none-enters (tick_of d) (cell_of xs))));
       }
 
   -- The interval entered.
   pub enter-turn : (x ≡ y → ⊥) → 1 ≤ d → (a ≡ 0 → ⊥) → (r : Bool) (ys : List ℕ) → r ≡ not (has_inside (interval d a) (cell_of xs))
-      → ys ≡ cell_words (length xs - 1) (enter (interval d a) (cell_of xs)) → Turn x y d a xs (cond r 1 0) ys
+      → ys ≡ cell_words (length xs - 1) (enter (interval d a) (cell_of xs)) → Turn x y d a xs r ys
   unfolding changes entered enter_both
   enter-turn n h k r ys p q =
-      let f : tick_of a ≡ some a = tick_is a (omega arith) in
+      let f : tick_of a ≡ Some a = tick_is a (omega arith) in
       record {
-        count = rw (ne_eqb x y n, tick_is d h, f) (ap (λ (b : Bool). cond b 1 0) p);
-        words = rw (ne_eqb x y n, tick_is d h, f) q;
+        value = rw (ne_eqb x y n, tick_is d h, f) p;
+        cell_after = rw (ne_eqb x y n, tick_is d h, f) q;
       }
 
 -- ---- whether entering changes a cell
@@ -77,9 +75,9 @@ module _ (x y d a : ℕ) (xs : List ℕ) where
 -- It does unless an interval inside stands there.
 pub changes-both : (o p : Option ℕ) (c : Cell) → changes_both o p c ≡ not (same_cell c (enter_both o p c))
 unfolding enter_both
-changes-both none p c = ap not (sym (same_cell-refl c))
-changes-both (some d) none c = ap not (sym (same_cell-refl c))
-changes-both (some d) (some a) c = ap not (sym (enter-same (interval d a) c))
+changes-both None p c = ap not (sym (same_cell-refl c))
+changes-both (Some d) None c = ap not (sym (same_cell-refl c))
+changes-both (Some d) (Some a) c = ap not (sym (enter-same (interval d a) c))
 
 -- ---- counting
 
@@ -111,11 +109,17 @@ pub sum-start : (g : ℕ → ℕ) → 0 ≡ sum_below g 0
 unfolding sum_below
 sum-start g = refl
 
+-- A truth value as a number.
+number-is : (b : Bool) → from_bool b ≡ cond b 1 0
+number-is true = refl
+number-is false = refl
+
 -- The next cell, lent as it was at first, is counted where it changes.
-pub count_turn : (s x d : ℕ) (e cells : List ℕ) (y m r : ℕ) {lent : List ℕ} → lent ≡ part s y cells → m ≡ count_below (changes_at s x d e cells) y → r ≡ cond (changes x y d (get_or e y 0) lent) 1 0
-    → m + r ≡ count_below (changes_at s x d e cells) (y + 1)
+pub count_turn : (s x d : ℕ) (e cells : List ℕ) (y m r : ℕ) {b : Bool} {lent : List ℕ} → lent ≡ part s y cells → m ≡ count_below (changes_at s x d e cells) y → b ≡ changes x y d (get_or e y 0) lent
+    → r ≡ from_bool b → m + r ≡ count_below (changes_at s x d e cells) (y + 1)
 unfolding count_below changes_at
-count_turn s x d e cells y m r q h f = rw (add-one y) (ap₂ ◌+◌ h (f ∙ ap (λ (l : List ℕ). cond (changes x y d (get_or e y 0) l) 1 0) q))
+count_turn s x d e cells y m r q h f g =
+    rw (add-one y) (ap₂ ◌+◌ h (g ∙ number-is _ ∙ ap (λ (b : Bool). cond b 1 0) (f ∙ ap (λ (l : List ℕ). changes x y d (get_or e y 0) l) q)))
 
 -- The count of the cells from the next animal, lent as they were at first, is added.
 pub sum-turn : (n s : ℕ) (d e body : List ℕ) (x m r : ℕ) {lent : List ℕ} → lent ≡ part (n * s) x body → m ≡ sum_below (changes_from n s d e body) x
@@ -124,10 +128,10 @@ unfolding sum_below changes_from
 sum-turn n s d e body x m r q h f = rw (add-one x) (ap₂ ◌+◌ h (f ∙ ap (λ (l : List ℕ). count_below (changes_at s x (get_or d x 0) e l) n) q))
 
 -- The count of the cells passed, with one cell more.
-pub count_small : (p : ℕ → Bool) (n m r x y d a : ℕ) (xs : List ℕ) → m ≡ count_below p n → r ≡ cond (changes x y d a xs) 1 0 → m + r ≤ n + 1
-count_small p n m r x y d a xs e f = go (changes x y d a xs) f
+pub count_small : (p : ℕ → Bool) (n m r : ℕ) (b : Bool) → m ≡ count_below p n → r ≡ from_bool b → m + r ≤ n + 1
+count_small p n m r b e f = go b f
   where
-    go : (b : Bool) → r ≡ cond b 1 0 → m + r ≤ n + 1
+    go : (b : Bool) → r ≡ from_bool b → m + r ≤ n + 1
     go true f = omega (arith, count_most p n)
     go false f = omega (arith, count_most p n)
 

@@ -1,32 +1,39 @@
 -- Adding a contact as the loops do it: the cells from one animal after those from another, each cell's words replaced in their place.
-use Rattle.std.specs.Prelude.{ℕ, zero, suc, ◌-◌, ◌*◌, ◌<◌, ◌≡◌, Bool, false, cond, not, List, length, get_or, eqb}
-use mathlib.Core.Option.{Option, none, some}
+use Rattle.std.specs.Prelude.{ℕ, zero, suc, ◌+◌, ◌-◌, ◌*◌, ◌<◌, ◌≡◌, Bool, false, cond, not, List, length, get_or, drop, eqb, Option, None, Some}
 use Rattle.journeys.specs.Journey.{interval}
 use Rattle.journeys.specs.Cell.{Cell, latest_departure, earliest_arrival, has_inside}
 use Rattle.journeys.specs.Adding.{enter_both}
 use Rattle.rules.specs.Folds.{count_below}
-use Rattle.rules.specs.Layout.{cell_words, cell_of}
+use Rattle.rules.specs.Layout.{animals, ticks, cell_words, cell_of}
 use Rattle.grid.specs.Parts.{part, parts}
 use Rattle.grid.specs.Cells.{cell_in}
 use Rattle.cells.specs.Stored.{or_zero}
 
--- ---- departures and arrivals, 0 where there is none
+-- ---- departures and arrivals
 
 -- The tick at x that a contact joins: t for the contact's own animal, for another what is looked up by t in a cell's words.
-abbrev pub tick_by : (Cell → ℕ → Option ℕ) → ℕ → ℕ → ℕ → List ℕ → ℕ
-tick_by look own t x xs = or_zero (cond (eqb x own) (some t) (look (cell_of xs) t))
+abbrev pub tick_by : (Cell → ℕ → Option ℕ) → ℕ → ℕ → ℕ → List ℕ → Option ℕ
+tick_by look own t x xs = cond (eqb x own) (Some t) (look (cell_of xs) t)
 
 -- The departure of x: t for u itself, for another the latest that cell (x, u) has with an arrival by t.
-unfoldable pub departing : ℕ → ℕ → List ℕ → ℕ → ℕ → ℕ → ℕ
+unfoldable pub departing : ℕ → ℕ → List ℕ → ℕ → ℕ → ℕ → Option ℕ
 departing n s body u t x = tick_by latest_departure u t x (cell_in n s body x u)
 
 -- The arrival at y: a for v itself, for another the earliest in cell (v, y) with departure at least a.
-unfoldable pub arriving : ℕ → ℕ → List ℕ → ℕ → ℕ → ℕ → ℕ
+unfoldable pub arriving : ℕ → ℕ → List ℕ → ℕ → ℕ → ℕ → Option ℕ
 arriving n s body v a y = tick_by earliest_arrival v a y (cell_in n s body v y)
 
--- The array holds the ticks f of the first n animals.
-abbrev pub Listed : ℕ → (ℕ → ℕ) → List ℕ → Type 0
-Listed n f l = (k : ℕ) → k < n → get_or l k 0 ≡ f k
+-- The array holds the ticks f of the first n animals, 0 where there is none.
+abbrev pub Listed : ℕ → (ℕ → Option ℕ) → List ℕ → Type 0
+Listed n f l = (k : ℕ) → k < n → get_or l k 0 ≡ or_zero (f k)
+
+-- The array holds the departures of the table's animals that a contact from u at t joins.
+abbrev pub Departures : List ℕ → ℕ → ℕ → List ℕ → Type 0
+Departures T u t d = Listed (animals T) (departing (animals T) (ticks T + 1) (drop 1 T) u t) d
+
+-- The array holds the arrivals at the table's animals that a contact reaching v at a joins.
+abbrev pub Arrivals : List ℕ → ℕ → ℕ → List ℕ → Type 0
+Arrivals T v a e = Listed (animals T) (arriving (animals T) (ticks T + 1) (drop 1 T) v a) e
 
 -- The ticks of the first n animals lie below m.
 abbrev pub Below : ℕ → ℕ → List ℕ → Type 0
@@ -34,8 +41,8 @@ Below n m l = (k : ℕ) → k < n → get_or l k 0 < m
 
 -- A tick in an array of ticks, where 0 says that there is none.
 abbrev pub tick_of : ℕ → Option ℕ
-tick_of zero = none
-tick_of (suc t) = some (suc t)
+tick_of zero = None
+tick_of (suc t) = Some (suc t)
 
 -- ---- entering
 
@@ -55,9 +62,9 @@ entered_from n s d e x cells = parts (entered_at x (get_or d x 0) e) s n cells
 
 -- Whether entering between these ends changes the cell.
 abbrev pub changes_both : Option ℕ → Option ℕ → Cell → Bool
-changes_both none e c = false
-changes_both (some d) none c = false
-changes_both (some d) (some e) c = not (has_inside (interval d e) c)
+changes_both None e c = false
+changes_both (Some d) None c = false
+changes_both (Some d) (Some e) c = not (has_inside (interval d e) c)
 
 -- Whether cell (x, y) changes.
 unfoldable pub changes : ℕ → ℕ → ℕ → ℕ → List ℕ → Bool

@@ -1,5 +1,5 @@
 // Every pair's interval enters its cell.
-ghost use Rattle.std.specs.Prelude.{◌≡◌, cond, ◌+◌, ◌*◌, ◌≤◌, ◌<◌, length};
+ghost use Rattle.std.specs.Prelude.{◌≡◌, ◌+◌, ◌*◌, ◌≤◌, ◌<◌, length};
 ghost use Rattle.rules.specs.Limits.{max_arrival};
 ghost use Rattle.rules.specs.Folds.{sum_below, count_below};
 ghost use Rattle.grid.specs.Parts.{parts};
@@ -7,28 +7,28 @@ ghost use Rattle.grid.specs.Cells.{Grid, CellsFrom};
 ghost use Rattle.cells.specs.Stored.{Stored};
 ghost use Rattle.adding.specs.Steps.{Below, entered, entered_at, entered_from, changes, changes_at, changes_from};
 
+use journeys::Interval;
 use tables::Opening;
 
-// [d, a] enters cell (x, y), where x is not y and there is an arrival a: 1 where the cell changed, else 0.
-fn enter_cell(cell: &mut [u32], x: usize, y: usize, d: u32, a: u32) -> u32
+// [d, a] enters cell (x, y), where x is not y and there is an arrival a: whether the cell changed.
+fn enter_cell(cell: &mut [u32], x: usize, y: usize, d: u32, a: u32) -> bool
     requires stored { Stored cell.old }
     requires le_d { (1 ≤ d) × (d < length cell.old) × (a ≤ max_arrival) }
-    ensures value { result ≡ cond (changes x y d a cell.old) 1 0 }
+    ensures value { result ≡ changes x y d a cell.old }
     ensures cell_after { cell.new ≡ entered x y d a cell.old }
 {
-    if x == y {
-        return 0;
+    if x == y || a == 0 {
+        return false;
     }
-    if a == 0 {
-        return 0;
-    }
-    if entering::enters(cell, d, a) {
-        return 1;
-    }
-    0
+    let interval = Interval {
+        departure: d,
+        arrival: a,
+    };
+    entering::enters(cell, interval)
 }
 
 // Where there is a departure d of x, [d, e(y)] enters each cell (x, y) from x; how many cells changed.
+// The cells are written by number: of the parts that `chunks_exact_mut` lends nothing is known afterwards.
 fn enter_cells_from(
     cells: &mut [u32],
     n: usize,
@@ -46,16 +46,15 @@ fn enter_cells_from(
         return 0;
     }
     let mut changed = 0;
-    let mut at = 0;
     for y in 0..n {
-        let end = at + size;
-        changed += enter_cell(&mut cells[at..end], x, y, d, e[y]);
-        at = end;
+        let at = y * size;
+        changed += u32::from(enter_cell(&mut cells[at..at + size], x, y, d, e[y]));
     }
     changed
 }
 
 // [d(x), e(y)] enters each cell (x, y); how many cells changed.
+// By number, as the cells from one animal.
 pub(crate) fn enter_all_cells(
     body: &mut [u32],
     n: usize,
@@ -70,11 +69,9 @@ pub(crate) fn enter_all_cells(
 {
     let width = n * size;
     let mut changed = 0;
-    let mut at = 0;
     for x in 0..n {
-        let end = at + width;
-        changed += enter_cells_from(&mut body[at..end], n, size, x, d[x], e);
-        at = end;
+        let at = x * width;
+        changed += enter_cells_from(&mut body[at..at + width], n, size, x, d[x], e);
     }
     changed
 }

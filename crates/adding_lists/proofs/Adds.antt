@@ -1,20 +1,19 @@
 -- Contacts added one list after another, and the invariant of the loops that add them.
+use Rattle.std.specs.Prelude.{None, Ok, Err, Result}
 use mathlib.Core.Path.{◌≡◌, refl, sym, ap, ap₂, ◌∙◌, subst}
-use mathlib.Core.Bool.{Bool, true, false, cond}
-use mathlib.Core.Option.{none}
 use mathlib.Core.List.Memᴰ
 use mathlib.Core.List.{List, [], ◌∷◌, ◌++◌, append-nil, append_assoc}
 use Prim.Native.Nat.{ℕ, ◌+◌, ◌-◌, ◌≤◌, ◌<◌}
 use native.Mathlib.Omega.{arith}
 use lib.ListN.{length, length-append}
-use Rattle.journeys.specs.Journey.{Contact}
+use Rattle.journeys.specs.declared.Contact.{Contact}
 use Rattle.words.specs.Words.{animals_of, ticks_of}
-use Rattle.rules.specs.declared.AddAnswer.{AddAnswer}
-use Rattle.rules.specs.declared.AddAnswer.TheVariants.{New, Known, Refused}
+use Rattle.rules.specs.declared.Refusal.{Refusal}
+use Rattle.rules.specs.declared.Added.{Added}
+use Rattle.rules.specs.declared.Added.TheVariants.{New, Known}
 use Rattle.rules.specs.Limits.{max_contacts}
 use Rattle.rules.specs.Folds.{flat}
-use Rattle.rules.specs.Layout.{animals, cells_of}
-use Rattle.rules.specs.Adding.{Legal, cells_changed, add_refusal, added_cells, holds, add_answer, add_leaves}
+use Rattle.rules.specs.Adding.{Legal, add_refusal, added, add_answer, add_leaves}
 use Rattle.rules.specs.CallLists.{engine, run, new_one, new_adds}
 use Rattle.rules.proofs.Folds.{flat_from, from_all, from_next, from-none}
 use Rattle.rules.proofs.Judged.{add_iff}
@@ -39,10 +38,10 @@ unfolding new_adds
 new-few T [] = omega arith
 new-few T (k ∷ a) = omega (arith, new-few (add_leaves T k) a, one (add_answer T k))
   where
-    one : (r : AddAnswer) → new_one r ≤ 1
-    one (New c) = omega arith
-    one (Known c) = omega arith
-    one (Refused r) = omega arith
+    one : (r : Result Added Refusal) → new_one r ≤ 1
+    one (Ok (New c)) = omega arith
+    one (Ok (Known c)) = omega arith
+    one (Err r) = omega arith
 
 -- Where two lists can be added, the first can, and the second can after it.
 addable_front : {T : List ℕ} (a b : List Contact) → Addable T (a ++ b) → Addable T a
@@ -59,7 +58,7 @@ addable_back {T} a b h =
 -- ---- one contact
 
 -- A contact that can be added is an add that is not refused.
-pub one-accepted : {T : List ℕ} (k : Contact) → Addable T (k ∷ []) → add_refusal T k ≡ none
+pub one-accepted : {T : List ℕ} (k : Contact) → Addable T (k ∷ []) → add_refusal T k ≡ None
 one-accepted {T} k h = (add_iff T k).1 (h.valid, h.legal k (Memᴰ.head refl))
 
 -- It leaves what the add leaves, and is new where the table did not hold it.
@@ -67,23 +66,14 @@ pub one-leaves : (T : List ℕ) (k : Contact) → add_leaves T k ≡ run engine 
 unfolding run
 one-leaves T k = refl
 
-one_number : (T : List ℕ) (k : Contact) → add_refusal T k ≡ none → (b : Bool) → b ≡ holds T k → cond b 0 1 ≡ new_adds engine T (k ∷ [])
-unfolding new_adds add_answer
-one_number T k f b g = go b ∙ ap (λ (x : Bool). new_one (cond x (Known m) (New m)) + 0) g ∙ sym (rw f refl)
-  where
-    m : ℕ
-    m = cells_changed (animals T) (cells_of T) (added_cells T k)
+module _ (T : List ℕ) (k : Contact) (f : add_refusal T k ≡ None) {changed : ℕ} where
+  pub one_known : added T k ≡ Known changed → 0 ≡ new_adds engine T (k ∷ [])
+  unfolding new_adds add_answer
+  one_known e = sym (rw f (ap (λ (a : Added). new_one (Ok a) + 0) e))
 
-    go : (x : Bool) → cond x 0 1 ≡ new_one (cond x (Known m) (New m)) + 0
-    go true = refl
-    go false = refl
-
-module _ (T : List ℕ) (k : Contact) (f : add_refusal T k ≡ none) {b : Bool} (g : b ≡ holds T k) where
-  pub one_known : b ≡ true → 0 ≡ new_adds engine T (k ∷ [])
-  one_known h = ap (λ (x : Bool). cond x 0 1) (sym h) ∙ one_number T k f b g
-
-  pub one-new : b ≡ false → 1 ≡ new_adds engine T (k ∷ [])
-  one-new h = ap (λ (x : Bool). cond x 0 1) (sym h) ∙ one_number T k f b g
+  pub one-new : added T k ≡ New changed → 1 ≡ new_adds engine T (k ∷ [])
+  unfolding new_adds add_answer
+  one-new e = sym (rw f (ap (λ (a : Added). new_one (Ok a) + 0) e))
 
 -- No contact leaves the table, and none is new.
 pub none-added : (T : List ℕ) (a : List Contact) → a ≡ [] → (0 ≡ new_adds engine T a) × (T ≡ run engine T a)

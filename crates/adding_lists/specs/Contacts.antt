@@ -1,7 +1,7 @@
 -- What the loops that add contacts ask of them.
 use Rattle.std.specs.Prelude.{ℕ, ◌≤◌, length}
 use mathlib.Core.List.{List, Memᴰ}
-use Rattle.journeys.specs.Journey.{Contact}
+use Rattle.journeys.specs.declared.Contact.{Contact}
 use Rattle.rules.specs.Limits.{max_contacts}
 use Rattle.rules.specs.Layout.{animals, ticks}
 use Rattle.rules.specs.Checks.{ValidTable}

@@ -3,19 +3,21 @@
 #![tactic(auto)]
 
 ghost use Rattle.std.specs.Prelude.{◌≡◌, [], ◌∷◌};
-ghost use Rattle.journeys.specs.Journey.{contact};
 ghost use Rattle.rules.specs.CallLists.{engine, run, new_adds};
 ghost use Rattle.adding_lists.specs.Contacts.{Addable};
 
-// Adds the contact (u, v, t): 1 where it was new, else 0.
-pub fn add_counting(table: &mut [u32], u: u32, v: u32, t: u32) -> u32
-    requires { Addable table.old (contact u v t ∷ []) }
-    ensures value { result ≡ new_adds engine table.old (contact u v t ∷ []) }
-    ensures table_after { table.new ≡ run engine table.old (contact u v t ∷ []) }
+use journeys::Contact;
+use rules::Added;
+
+// Adds the contact: 1 where it was new, else 0.
+// A number and no `bool`, since callers add it up.
+pub fn add_counting(table: &mut [u32], contact: Contact) -> u32
+    requires { Addable table.old (contact ∷ []) }
+    ensures value { result ≡ new_adds engine table.old (contact ∷ []) }
+    ensures table_after { table.new ≡ run engine table.old (contact ∷ []) }
 {
-    let change = adding::add_contact(table, u, v, t);
-    if change.known {
-        return 0;
+    match adding::add_contact(table, contact) {
+        Added::New(_) => 1,
+        Added::Known(_) => 0,
     }
-    1
 }

@@ -1,5 +1,5 @@
 -- Collecting a set of animals: what one animal more does to its words and its count, and what stands there at the end.
-use mathlib.Core.Path.{◌≡◌, refl, sym, ap, ◌∙◌, subst}
+use mathlib.Core.Path.{◌≡◌, refl, sym, ap, ap₂, ◌∙◌, subst}
 use mathlib.Core.Bool.{Bool, true, false, cond, not, ◌&&◌, and-false}
 use mathlib.Core.List.{List, [], ◌∷◌}
 use Prim.Native.Nat.{ℕ, zero, suc, ◌+◌, ◌-◌, ◌*◌, ◌/◌, ◌%◌, ◌^◌, ◌≤◌, ◌<◌}
@@ -13,6 +13,7 @@ use lib.Seq.{get_or-set_same, get_or-set_other, ext_get_or}
 use borrow.Author.Tests.{lt-ltb, le-ltb, eq-eqb, ne_eqb}
 use Rattle.journeys.proofs.Tests.{Outcome, holds, fails, lt_outcome, eq_outcome}
 use Rattle.rules.specs.Limits.{max_animals}
+use Rattle.rules.specs.declared.AnimalSet.{AnimalSet}
 use Rattle.rules.specs.Folds.{sum_below, count_below}
 use Rattle.rules.specs.Layout.{animals}
 use Rattle.rules.specs.Questions.{reaches, is_reached, set_word, set_words}
@@ -204,6 +205,10 @@ module _ (T : List ℕ) (u first last i : ℕ) (h : i < animals T) where
   unfolding is_reached
   reached-other n e = rw (lt-ltb i (animals T) h, ne_eqb u i n, sym e) refl
 
+-- A set of its words and its count.
+abbrev set_of : List ℕ → ℕ → AnimalSet
+set_of ws c = record { words = ws; count = c }
+
 -- A test that is asked twice.
 and_again : (a b c : Bool) → (a && (a && b && c)) ≡ (a && b && c)
 and_again true b c = refl
@@ -230,19 +235,16 @@ module _ (T : List ℕ) (u first last : ℕ) where
       (λ b o. ap (λ (t : Bool). cond t (2 ^ b) 0) (and_again (ltb (j * 32 + b) (animals T)) (not (eqb u (j * 32 + b))) (reaches T u (j * 32 + b) first last)))
 
   -- All animals are passed, n of them.
-  pub collected-words : {ws : List ℕ} {c n i : ℕ} → n ≡ animals T → n ≤ i → i ≤ n → Collected (is_reached T u first last) i ws c → ws ≡ set_words T u first last
+  pub collected-set : {ws : List ℕ} {c n i : ℕ} → n ≡ animals T → n ≤ i → i ≤ n → Collected (is_reached T u first last) i ws c
+      → set_of ws c ≡ set_of (set_words T u first last) (count_below (is_reached T u first last) (animals T))
   unfolding set_words
-  collected-words {ws} {c} {n} {i} e l m w =
+  collected-set {ws} {c} {n} {i} e l m w =
       let z : i ≡ animals T = (let q : i ≡ n = omega (l, m, arith) in q) ∙ e in
+      let whole : ws ≡ set_words T u first last =
       ext_get_or 0 ws (set_words T u first last) w.long
       (λ j o. w.words j (omega (arith, w.long)) ∙ ap (λ (k : ℕ). word_below (is_reached T u first last) k j) z ∙ word_end j
-      ∙ sym (eight_at (set_word T u first last) j (omega (arith, w.long))))
-
-  -- So is their count.
-  pub collected-count : {ws : List ℕ} {c n i : ℕ} → n ≡ animals T → n ≤ i → i ≤ n → Collected (is_reached T u first last) i ws c → c ≡ count_below (is_reached T u first last) (animals T)
-  collected-count {ws} {c} {n} {i} e l m w =
-      let z : i ≡ animals T = (let q : i ≡ n = omega (l, m, arith) in q) ∙ e in
-      w.counted ∙ ap (count_below (is_reached T u first last)) z
+      ∙ sym (eight_at (set_word T u first last) j (omega (arith, w.long)))) in
+      ap₂ set_of whole (w.counted ∙ ap (count_below (is_reached T u first last)) z)
 
 -- ---- the bit as it is shifted
 

@@ -1,37 +1,30 @@
--- What the tests of all animals say of pairs of animals.
-use mathlib.Core.Path.{◌≡◌, refl, ap, ◌∙◌}
-use mathlib.Core.Bool.{Bool, true}
-use mathlib.Core.List.{List}
-use Prim.Native.Nat.{ℕ}
-use borrow.Author.Tests.{eq-eqb, ne_eqb}
+-- A test of all animals, as a range tests it.
+use mathlib.Core.Path.{◌≡◌, refl, sym, ap, ◌∙◌}
+use mathlib.Core.Bool.{Bool, true, false, ◌&&◌}
+use Prim.Native.Nat.{ℕ, zero, suc, ◌+◌}
+use native.Mathlib.Omega.{arith}
+use Rattle.std.specs.List.{list_all, range_with_len}
 use Rattle.rules.specs.Folds.{all_below}
-use Rattle.rules.specs.Layout.{animals}
-use Rattle.rules.specs.Questions.{reaches, connects}
-use Rattle.animal_loops.specs.Walks.{joins, joins_all}
 
--- ---- pairs of animals
+-- The last number of a range is tested behind the others.
+range-more : (p : ℕ → Bool) (a n : ℕ) → list_all p (range_with_len a (suc n)) ≡ (list_all p (range_with_len a n) && p (a + n))
+range-more p a zero = let e : a + zero ≡ a = omega arith in first (p a) ∙ ap p (sym e)
+  where
+    first : (b : Bool) → (b && true) ≡ b
+    first true = refl
+    first false = refl
+range-more p a (suc n) =
+    let e : a + 1 + n ≡ a + suc n = omega arith in
+    ap (λ (b : Bool). p a && b) (range-more p (a + 1) n) ∙ again (p a) (list_all p (range_with_len (a + 1) n)) (p (a + 1 + n)) ∙ ap (λ (k : ℕ). list_all p (range_with_len a (suc n)) && p k) e
+  where
+    again : (b x y : Bool) → (b && (x && y)) ≡ ((b && x) && y)
+    again true x y = refl
+    again false x y = refl
 
-module _ (T : List ℕ) (first last u v : ℕ) where
-  -- An animal joins itself.
-  pub joins-self : u ≡ v → true ≡ joins T first last u v
-  unfolding joins
-  joins-self e = rw (eq-eqb u v e) refl
-
-  -- It joins another that it reaches.
-  pub joins-other : (u ≡ v → ⊥) → {b : Bool} → b ≡ reaches T u v first last → b ≡ joins T first last u v
-  unfolding joins
-  joins-other h e = rw (ne_eqb u v h) e
-
--- ---- all pairs, with n the table's number of animals
-
-module _ (T : List ℕ) (first last u n : ℕ) (e : n ≡ animals T) {b : Bool} where
-  -- The test of all animals is the test of u.
-  pub all-joined : b ≡ all_below (joins T first last u) n → b ≡ joins_all T first last u
-  unfolding joins_all
-  all-joined f = f ∙ ap (all_below (joins T first last u)) e
-
-module _ (T : List ℕ) (first last n : ℕ) (e : n ≡ animals T) {b : Bool} where
-  -- The test of all u is that of all pairs.
-  pub all-connected : b ≡ all_below (joins_all T first last) n → b ≡ connects T first last
-  unfolding connects joins_all joins
-  all-connected f = f ∙ ap (all_below (joins_all T first last)) e
+-- A range from 0 tests all numbers below its end.
+pub all-in-range : (p : ℕ → Bool) (n : ℕ) → list_all p (range_with_len 0 n) ≡ all_below p n
+unfolding all_below
+all-in-range p zero = refl
+all-in-range p (suc n) =
+    let e : 0 + n ≡ n = omega arith in
+    range-more p 0 n ∙ ap (λ (k : ℕ). list_all p (range_with_len 0 n) && p k) e ∙ ap (λ (b : Bool). b && p n) (all-in-range p n)

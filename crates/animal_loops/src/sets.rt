@@ -3,14 +3,14 @@ ghost use Rattle.std.specs.Prelude.{◌≡◌, ◌+◌, ◌/◌, ◌%◌, ◌^�
 ghost use Rattle.rules.specs.Limits.{max_animals};
 ghost use Rattle.rules.specs.Folds.{count_below};
 ghost use Rattle.rules.specs.Layout.{animals};
-ghost use Rattle.rules.specs.Checks.{ValidTable};
 ghost use Rattle.rules.specs.Questions.{is_reached, set_words};
 ghost use Rattle.animal_loops.specs.Collected.{Collected};
 
 use rules::AnimalSet;
+use tables::Table;
 
 // The set of no animal.
-pub fn empty() -> AnimalSet
+fn empty() -> AnimalSet
     ensures words_value { result.words ≡ replicate 8 0 }
     ensures count_value { result.count ≡ 0 }
 {
@@ -38,14 +38,13 @@ fn with_animal(before: AnimalSet, i: u32) -> AnimalSet
 
 // The set with animal i where it is another than u and reached from it.
 fn with_reached(
-    table: &[u32],
+    table: &Table,
     before: AnimalSet,
     u: u32,
     i: u32,
     first: u32,
     last: u32,
 ) -> AnimalSet
-    requires valid_table { ValidTable table.now }
     requires u_bound { (u < animals table.now) × (i < animals table.now) }
     requires collected { Collected (is_reached table.now u first last) i before.words before.count }
     ensures { Collected (is_reached table.now u first last) (i + 1) result.words result.count }
@@ -60,13 +59,11 @@ fn with_reached(
 }
 
 // The set of the animals reached from u in the window.
-pub fn collect(table: &[u32], u: u32, first: u32, last: u32) -> AnimalSet
-    requires valid_table { ValidTable table.now }
-    requires u_bound { u < animals table.now }
-    ensures words_value { result.words ≡ set_words table.now u first last }
-    ensures count_value { result.count ≡ count_below (is_reached table.now u first last) (animals table.now) }
+pub fn collect(table: &Table, u: u32, first: u32, last: u32) -> AnimalSet
+    requires { u < animals table.now }
+    ensures { result ≡ record { words = set_words table.now u first last; count = count_below (is_reached table.now u first last) (animals table.now) } }
 {
-    let n = words::animals_of(table[0]);
+    let n = table.animals();
     let mut found = empty();
     for i in 0..n {
         found = with_reached(table, found, u, i, first, last);

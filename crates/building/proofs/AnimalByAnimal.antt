@@ -1,7 +1,7 @@
 -- A contact added animal by animal: the turns of the loop over the animals.
+use Rattle.std.specs.Prelude.{Option, None, Some}
 use mathlib.Core.Path.{◌≡◌, refl, sym, ap, ap₂, ◌∙◌, subst}
 use mathlib.Core.Logic.{◌≢◌, ◌⊎◌, inl, inr, ⊎_elim}
-use mathlib.Core.Option.{Option, none, some}
 use mathlib.Core.Bool.{Bool, true, false, cond, ◌&&◌}
 use mathlib.Core.List.{List, [], ◌∷◌, ◌++◌, Memᴰ}
 use Prim.Native.Nat.{ℕ, suc, ◌+◌, ◌-◌, ◌*◌, ◌≤◌, ◌<◌}
@@ -11,7 +11,9 @@ use lib.Seq.{drop-drop}
 use lib.Dec.{leb, ltb, eqb}
 use borrow.Author.Tests.{lt-ltb, le-ltb}
 use Rattle.rules.specs.Limits.{max_arrival}
-use Rattle.journeys.specs.Journey.{Contact, contact, Interval, interval}
+use Rattle.journeys.specs.declared.Contact.{Contact}
+use Rattle.journeys.specs.declared.Interval.{Interval}
+use Rattle.journeys.specs.Journey.{interval}
 use Rattle.journeys.specs.Cell.{Cell, WellFormedCell, latest_departure}
 use Rattle.journeys.specs.Adding.{Cells, add, departure_of}
 use Rattle.journeys.proofs.Closed.{add-diagonal}
@@ -19,7 +21,6 @@ use Rattle.journeys.proofs.Rows.{rows-suffice}
 use Rattle.journeys.proofs.Tests.{Outcome, holds, fails, eq_outcome}
 use Rattle.rules.specs.Layout.{cell_of}
 use Rattle.rules.proofs.Fresh.{add-good}
-use Rattle.cells.specs.Stored.{or_zero}
 use Rattle.grid.specs.Parts.{put}
 use Rattle.grid.proofs.Places.{place, part_length}
 use Rattle.grid.specs.Cells.{cell_in, Grid}
@@ -105,9 +106,15 @@ behind-rows L w τ c m (inr e) h =
     ∙ marks-next L w (length c) (τ - m)
     ∙ ap (λ (i : ℕ). marks L w i (τ - m)) d
 
-module _ (s : ℕ) {n δ u v t x : ℕ} {body : List ℕ} {T : Cells} {L : ℕ → List ℕ} (hx : x < n) (r : CanAppend n (s - 1) δ T (contact u v t)) (m : Marked n (s - 1) body (added_below δ T (contact u v t) x) L) where
-  abbrev k : Contact
-  k = contact u v t
+module _ (s : ℕ) {n δ x : ℕ} {body : List ℕ} {T : Cells} {L : ℕ → List ℕ} {k : Contact} (hx : x < n) (r : CanAppend n (s - 1) δ T k) (m : Marked n (s - 1) body (added_below δ T k x) L) where
+  abbrev u : ℕ
+  u = k.from
+
+  abbrev v : ℕ
+  v = k.to
+
+  abbrev t : ℕ
+  t = k.tick
 
   s-is : s - 1 + 1 ≡ s
   s-is = omega (arith, r.sizes.τ-low)
@@ -179,14 +186,14 @@ module _ (s : ℕ) {n δ u v t x : ℕ} {body : List ℕ} {T : Cells} {L : ℕ �
   own b = rw (le-ltb x x (omega arith)) refl
 
   -- The departure read off the words is that of the rule.
-  pub departs-by_rule : departing n s body u t x ≡ or_zero (departure_of T k x)
+  pub departs-by_rule : departing n s body u t x ≡ departure_of T k x
   unfolding departing departure_of
-  departs-by_rule = ap (λ (c : Cell). or_zero (cond (eqb x u) (some t) (latest_departure c t))) (cell-is x u hx r.legal.from_below ∙ own u)
+  departs-by_rule = ap (λ (c : Cell). cond (eqb x u) (Some t) (latest_departure c t)) (cell-is x u hx r.legal.from_below ∙ own u)
 
   ticks : Tick s (departure_of T k x)
   unfolding departure_of
   ticks =
-      tick-cond s (eqb x u) (some t) (latest_departure (T x u) t) (r.legal.from_one, omega (arith, r.legal.to_last))
+      tick-cond s (eqb x u) (Some t) (latest_departure (T x u) t) (r.legal.from_one, omega (arith, r.legal.to_last))
       (latest-tick s t (T x u) (λ i q. let o = (r.good.cells x u hx r.legal.from_below).limits i q in (o.departs, omega (arith, o.in_time))))
 
   -- With x added.
@@ -225,23 +232,14 @@ module _ (s : ℕ) {n δ u v t x : ℕ} {body : List ℕ} {T : Cells} {L : ℕ �
     column = add-column δ T k x d (r.good.cells x v hx r.legal.to_below).rising (λ i q. (r.early x v hx r.legal.to_below i q).1)
 
     -- No departure.
-    pub for_no_departure : (w : ℕ) → w ≡ departing n s body u t x → w ≡ 0 → Marked n (s - 1) body (added_below δ T k (x + 1)) L
+    pub for_no_departure : departing n s body u t x ≡ None → Marked n (s - 1) body (added_below δ T k (x + 1)) L
     unfolding put_last_from
-    for_no_departure w e z =
-        for_unchanged
-        (column ∙ ap (λ (o : Option ℕ). put_last_from o (t + δ) (T x v)) (none_of (departure_of T k x) ticks (sym departs-by_rule ∙ sym e ∙ z)))
-      where
-        none_of : (o : Option ℕ) → Tick s o → or_zero o ≡ 0 → o ≡ none
-        none_of none q f = refl
-        none_of (some a) q f = absurd (omega (arith, q.0))
+    for_no_departure e =
+        for_unchanged (column ∙ ap (λ (o : Option ℕ). put_last_from o (t + δ) (T x v)) (sym departs-by_rule ∙ e))
 
-    module _ (w : ℕ) (e : w ≡ departing n s body u t x) (z : w ≢ 0) where
-      departs : departure_of T k x ≡ some w
-      departs = some_of (departure_of T k x) (e ∙ departs-by_rule)
-        where
-          some_of : (o : Option ℕ) → w ≡ or_zero o → o ≡ some w
-          some_of none f = absurd (z f)
-          some_of (some a) f = ap some (sym f)
+    module _ (w : ℕ) (e : departing n s body u t x ≡ Some w) where
+      departs : departure_of T k x ≡ Some w
+      departs = sym departs-by_rule ∙ e
 
       -- The departure is a tick of the table.
       departure-tick : (1 ≤ w) × (w < s)

@@ -7,7 +7,7 @@ use native.Mathlib.Omega.{arith}
 use lib.ListN.{length, get_or, take, drop, set, length-append, length-take, length-drop}
 use lib.Seq.{take_all, take-suc}
 use borrow.Author.Tests.{le-leb, lt-leb}
-use Rattle.journeys.specs.Journey.{Interval}
+use Rattle.journeys.specs.declared.Interval.{Interval}
 use Rattle.journeys.specs.Cell.{Cell}
 use Rattle.journeys.proofs.Cover.{departure-path}
 use Rattle.words.specs.Layout.{get}

@@ -1,15 +1,14 @@
 -- A cell's rows in use with other words behind them: what the words say, and the latest departure found in them.
+use Rattle.std.specs.Prelude.{None, Some, option_map}
 use mathlib.Core.Path.{◌≡◌, refl, sym, ap, subst, ◌∙◌}
 use mathlib.Core.Logic.{◌≢◌}
-use mathlib.Core.Option
-use mathlib.Core.Option.{Option}
 use mathlib.Core.List.{List, ◌++◌, map, Memᴰ}
 use Prim.Native.Nat.{ℕ, zero, suc, ◌+◌, ◌≤◌, ◌<◌}
 use native.Mathlib.Numerals.{add-one}
 use native.Mathlib.Omega.{arith}
 use lib.ListN.{length, get_or, take, drop, length-append, length-map}
 use lib.Seq.{take_at, drop_at}
-use Rattle.journeys.specs.Journey.{Interval}
+use Rattle.journeys.specs.declared.Interval.{Interval}
 use Rattle.journeys.specs.Cell.{Cell, Rising, latest_departing, latest_departure}
 use Rattle.words.specs.Layout.{get}
 use Rattle.words.specs.Words.{rows_field, departure_field, arrival_field, interval_word, interval_of}
@@ -17,7 +16,7 @@ use Rattle.words.proofs.Packed.{interval_of-word, rows_of_word}
 use Rattle.rules.specs.Limits.{max_ticks, max_arrival, max_cell_words}
 use Rattle.rules.specs.Layout.{cell_of}
 use Rattle.rules.proofs.Folds.{map_back}
-use Rattle.cells.specs.Stored.{RowsInUse, departure_end, arrival_end, front_below, or_zero}
+use Rattle.cells.specs.Stored.{RowsInUse, departure_end, arrival_end, front_below}
 use Rattle.cells.proofs.Search.{arrival-follows, front_length, front-gt, latest_none, latest-some}
 use Rattle.cells.proofs.Lent.{row_is}
 use Rattle.building.specs.RowsInUse.{with_rows, InUse}
@@ -90,22 +89,22 @@ searchable {xs} s = record { within = omega (arith, count-is xs s, s.fits); risi
 
 module _ (t : ℕ) {n : ℕ} {xs : List ℕ} (p : Counted n xs) where
   -- No rows, no departure.
-  pub latest-empty : n ≡ 0 → 0 ≡ or_zero (latest_departure (cell_of xs) t)
+  pub latest-empty : n ≡ 0 → None ≡ latest_departure (cell_of xs) t
   unfolding latest_departure
   latest-empty z =
-      ap (λ (o : Option Interval). or_zero (Option.map departure_end o))
+      ap (option_map departure_end)
       (sym (latest_none t (cell_of xs) (interval_of 0) p.in_use.rising (omega (arith, p.rows, front_length arrival_end (t + 1) (cell_of xs)))))
 
   -- Where the last row arrives by t, its departure is the latest.
-  pub latest-last : n ≢ 0 → get arrival_field (get_or xs n 0) ≤ t → get departure_field (get_or xs n 0) ≡ or_zero (latest_departure (cell_of xs) t)
+  pub latest-last : n ≢ 0 → get arrival_field (get_or xs n 0) ≤ t → Some (get departure_field (get_or xs n 0)) ≡ latest_departure (cell_of xs) t
   unfolding latest_departure
   latest-last = go n p.rows
     where
       go : (n : ℕ) → n ≡ length (cell_of xs) → n ≢ 0 → get arrival_field (get_or xs n 0) ≤ t
-          → get departure_field (get_or xs n 0) ≡ or_zero (Option.map departure_end (latest_departing (cell_of xs) t))
+          → Some (get departure_field (get_or xs n 0)) ≡ option_map departure_end (latest_departing (cell_of xs) t)
       go zero q z h = absurd (z refl)
       go (suc k) q z h =
           let r : get_or (cell_of xs) k (interval_of 0) ≡ interval_of (get_or xs (suc k) 0) = rw (add-one k) at (row_is xs k (omega arith)) in
           let a : (get_or (cell_of xs) k (interval_of 0)).arrival < t + 1 = rw r (let w : get arrival_field (get_or xs (suc k) 0) < t + 1 = omega arith in w) in
           let f : front_below arrival_end (t + 1) (cell_of xs) ≡ suc k = omega (arith, front-gt arrival_end (t + 1) arrival-follows (cell_of xs) k (interval_of 0) p.in_use.rising (omega arith) a, front_length arrival_end (t + 1) (cell_of xs)) in
-          sym (ap (λ (o : Option Interval). or_zero (Option.map departure_end o)) (latest-some t (cell_of xs) (interval_of 0) p.in_use.rising k f) ∙ ap departure_end r)
+          sym (ap (option_map departure_end) (latest-some t (cell_of xs) (interval_of 0) p.in_use.rising k f) ∙ ap (λ (i : Interval). Some (departure_end i)) r)

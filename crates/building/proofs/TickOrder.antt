@@ -1,15 +1,17 @@
 -- Contacts added in the order of their ticks: what the add rule then comes to, and what the cells then hold.
+use Rattle.std.specs.Prelude.{Option, None, Some, option_map}
 use mathlib.Core.Path.{◌≡◌, refl, subst, ap, ◌∙◌}
 use mathlib.Core.Logic.{◌≢◌}
 use mathlib.Core.Bool.{Bool, true, false, cond, ◌||◌}
-use mathlib.Core.Option.{Option, none, some, map}
 use mathlib.Core.List.{List, [], ◌∷◌, ◌++◌, Memᴰ}
 use Prim.Native.Nat.{ℕ, zero, suc, ◌+◌, ◌≤◌, ◌<◌}
 use native.Mathlib.Omega.{arith}
 use lib.ListN.{length, get_or}
 use lib.Dec.{eqb}
 use borrow.Author.Tests.{le-leb, lt-leb, le-ltb, eq-eqb, ne_eqb}
-use Rattle.journeys.specs.Journey.{Contact, contact, In, Interval, interval, single, onward, Journey}
+use Rattle.journeys.specs.declared.Contact.{Contact}
+use Rattle.journeys.specs.declared.Interval.{Interval}
+use Rattle.journeys.specs.Journey.{contact, In, interval, single, onward, Journey}
 use Rattle.journeys.specs.Cell.{Cell, Rising, earliest_arrival, inside, has_inside, without_containing, put_in_order, enter}
 use Rattle.journeys.specs.Adding.{Cells, departure_of, arrival_of, enter_both, add, add_all, cells_over}
 use Rattle.journeys.proofs.Tests.{Outcome, holds, fails, le_outcome}
@@ -64,9 +66,9 @@ enter-last i (j ∷ k ∷ c) u f =
 -- ---- the add rule
 
 -- Where every row departs before t there is no arrival.
-earliest-past : (t : ℕ) (c : Cell) → ((i : Interval) → Memᴰ i c → i.departure < t) → earliest_arrival c t ≡ none
+earliest-past : (t : ℕ) (c : Cell) → ((i : Interval) → Memᴰ i c → i.departure < t) → earliest_arrival c t ≡ None
 unfolding earliest_arrival
-earliest-past t c f = ap (map (λ i. i.arrival)) ((first-none (earliest-arriving t c)).1 (λ j m h. let l = f j m in omega arith))
+earliest-past t c f = ap (option_map (λ i. i.arrival)) ((first-none (earliest-arriving t c)).1 (λ j m h. let l = f j m in omega arith))
 
 -- A contact after which no journey goes on from its animal changes only the cells that end there.
 pub add-elsewhere : (δ : ℕ) (T : Cells) (k : Contact) (x y : ℕ) → y ≢ k.to
@@ -76,10 +78,10 @@ unfolding add arrival_of enter_both
 add-elsewhere δ T k x y n f =
     rw (ne_eqb y k.to n, earliest-past (k.tick + δ) (T k.to y) f) (go (eqb x y) (departure_of T k x))
   where
-    go : (b : Bool) (d : Option ℕ) → cond b (T x y) (enter_both d none (T x y)) ≡ T x y
+    go : (b : Bool) (d : Option ℕ) → cond b (T x y) (enter_both d None (T x y)) ≡ T x y
     go true d = refl
-    go false none = refl
-    go false (some d) = refl
+    go false None = refl
+    go false (Some d) = refl
 
 -- Into those cells, where no journey arrives later, it puts its intervals last.
 pub add-column : (δ : ℕ) (T : Cells) (k : Contact) (x : ℕ) → x ≢ k.to → Rising (T x k.to)
@@ -88,9 +90,9 @@ pub add-column : (δ : ℕ) (T : Cells) (k : Contact) (x : ℕ) → x ≢ k.to �
 unfolding add arrival_of enter_both put_last_from
 add-column δ T k x n u f = rw (ne_eqb x k.to n, eq-eqb k.to k.to refl) (go (departure_of T k x))
   where
-    go : (d : Option ℕ) → enter_both d (some (k.tick + δ)) (T x k.to) ≡ put_last_from d (k.tick + δ) (T x k.to)
-    go none = refl
-    go (some d) = enter-last (interval d (k.tick + δ)) (T x k.to) u f
+    go : (d : Option ℕ) → enter_both d (Some (k.tick + δ)) (T x k.to) ≡ put_last_from d (k.tick + δ) (T x k.to)
+    go None = refl
+    go (Some d) = enter-last (interval d (k.tick + δ)) (T x k.to) u f
 
 -- The cells after one contact more at the end of the list.
 pub over_snoc : (δ : ℕ) (A : List Contact) (k : Contact) (x y : ℕ) → cells_over δ (A ++ (k ∷ [])) x y ≡ add δ (cells_over δ A) k x y

@@ -1,8 +1,8 @@
 -- An interval put at the end of a cell, and the words of a cell with something behind its rows in use.
-use Rattle.std.specs.Prelude.{ℕ, ◌+◌, ◌≤◌, ◌<◌, ◌≡◌, cond, length, drop, leb}
-use mathlib.Core.Option.{Option, none, some}
+use Rattle.std.specs.Prelude.{ℕ, ◌+◌, ◌≤◌, ◌<◌, ◌≡◌, cond, length, drop, leb, Option, None, Some}
 use mathlib.Core.List.{List, [], ◌∷◌, ◌++◌, map, Memᴰ}
-use Rattle.journeys.specs.Journey.{Interval, interval}
+use Rattle.journeys.specs.declared.Interval.{Interval}
+use Rattle.journeys.specs.Journey.{interval}
 use Rattle.journeys.specs.Cell.{Cell, Rising}
 use Rattle.words.specs.Words.{count_word, interval_word}
 use Rattle.rules.specs.Limits.{max_arrival, max_cell_words}
@@ -17,8 +17,8 @@ put_last i (j ∷ k ∷ c) = j ∷ put_last i (k ∷ c)
 
 -- The same, where the departure may be missing.
 unfoldable pub put_last_from : Option ℕ → ℕ → Cell → Cell
-put_last_from none a c = c
-put_last_from (some d) a c = put_last (interval d a) c
+put_last_from None a c = c
+put_last_from (Some d) a c = put_last (interval d a) c
 
 -- The words of a cell: its rows in use, then others.
 unfoldable pub with_rows : Cell → List ℕ → List ℕ

@@ -2,17 +2,20 @@
 use mathlib.Core.Path.{◌≡◌, refl, sym, ap, ◌∙◌}
 use mathlib.Core.Bool.{Bool, true, false, not, ◌&&◌, and_assoc, and-true, and-false}
 use mathlib.Core.List.{List, [], ◌∷◌}
-use Prim.Native.Nat.{ℕ, suc, ◌+◌, ◌-◌, ◌≤◌, ◌<◌}
+use mathlib.Core.Logic.{◌⊎◌, inl, inr}
+use Prim.Native.Nat.{ℕ, ◌+◌, ◌-◌, ◌≤◌, ◌<◌}
 use native.Mathlib.Nat.{le_of_eq}
 use native.Mathlib.Numerals.{add-one}
 use native.Mathlib.Omega.{arith}
 use lib.Bits.{bit_or, or_add_and, and_le_l, and_le_r}
-use lib.Dec.{leb, eqb}
+use lib.Dec.{leb, ltb, eqb}
 use lib.ListN.{length, get_or, take, drop, drop_of_length-le, length-drop}
 use lib.Seq.{drop-cons, take_all}
 use borrow.Author.Tests.{not-true, not-false, le-leb, lt-leb, lt-ltb, le-ltb, eq-eqb, ne_eqb}
-use Rattle.journeys.proofs.Tests.{Outcome, holds, fails, eq_outcome}
+use Rattle.std.specs.List.{fold}
+use Rattle.journeys.proofs.Tests.{Outcome, holds, fails, eq_outcome, le_outcome}
 use Rattle.words.specs.Layout.{get, is_of}
+use Rattle.words.proofs.Packed.{unused_word-is}
 use Rattle.words.specs.Words.{count_layout, rows_field, interval_layout, departure_field, arrival_field, unused_layout}
 use Rattle.rules.specs.Checks.{row_well_formed, rows_well_formed, all_unused, cell_well_formed}
 
@@ -33,52 +36,46 @@ dep w = get departure_field w
 abbrev arr : ℕ → ℕ
 arr w = get arrival_field w
 
-module _ (τ δ p q w : ℕ) where
-  -- A word that is no interval is no row.
-  pub row-kind : is_of interval_layout w ≡ false → row_well_formed τ δ p q w ≡ false
+module _ (τ δ p q w : ℕ) {k : Bool} {d a : ℕ} (x : k ≡ is_of interval_layout w) (y : d ≡ dep w) (z : a ≡ arr w) where
+  -- An interval word that departs after p, arrives after q and not before departure + δ is a row exactly when it arrives at τ + δ or before:
+  -- its departure is then at most τ.
+  pub row-passed : (k ≡ true) × (p < d) × (q < a) × (d + δ ≤ a) → leb a (τ + δ) ≡ row_well_formed τ δ p q w
   unfolding row_well_formed
-  row-kind e = rw e refl
+  row-passed h =
+      let e : is_of interval_layout w ≡ true = sym x ∙ h.0 in
+      rw (e, ← y, ← z, lt-ltb p d h.1, lt-ltb q a h.2, le-leb (d + δ) a h.3) (go (le_outcome a (τ + δ)))
+    where
+      go : {b : Bool} → Outcome (a ≤ τ + δ) (τ + δ < a) b → b ≡ (leb d τ && true && b)
+      go (holds m) = rw (le-leb d τ (omega arith)) refl
+      go (fails m) = sym (and-false (leb d τ && true))
 
-  module _ (e : is_of interval_layout w ≡ true) where
-    -- Nor is one that does not depart after p.
-    pub row-departs : dep w ≤ p → row_well_formed τ δ p q w ≡ false
-    unfolding row_well_formed
-    row-departs h = rw (e, le-ltb p (dep w) h) refl
+  -- Any other word is no row.
+  pub row-failed : (k ≡ false) ⊎ (d ≤ p) ⊎ (a ≤ q) ⊎ (a < d + δ) → false ≡ row_well_formed τ δ p q w
+  unfolding row_well_formed
+  row-failed h = rw (← y, ← z) (go h)
+    where
+      fine : Bool
+      fine = is_of interval_layout w
 
-    module _ (d : p < dep w) where
-      -- Nor is one that does not arrive after q.
-      pub row-arrives : arr w ≤ q → row_well_formed τ δ p q w ≡ false
-      unfolding row_well_formed
-      row-arrives h = rw (e, lt-ltb p (dep w) d, le-ltb q (arr w) h) refl
-
-      module _ (a : q < arr w) where
-        -- Nor is one that arrives before departure + δ.
-        pub row-soon : arr w < dep w + δ → row_well_formed τ δ p q w ≡ false
-        unfolding row_well_formed
-        row-soon h = rw (e, lt-ltb p (dep w) d, lt-ltb q (arr w) a, lt-leb (dep w + δ) (arr w) h, and-false (leb (dep w) τ)) refl
-
-        -- Any other is a row exactly when it arrives at τ + δ or before: its departure is then at most τ.
-        pub row_last : (b : Bool) → dep w + δ ≤ arr w → (b ≡ true → arr w ≤ τ + δ) → (b ≡ false → τ + δ < arr w) → b ≡ row_well_formed τ δ p q w
-        unfolding row_well_formed
-        row_last true h t f =
-            let k : arr w ≤ τ + δ = t refl in
-            rw (e, lt-ltb p (dep w) d, lt-ltb q (arr w) a, le-leb (dep w) τ (omega arith), le-leb (dep w + δ) (arr w) h, le-leb (arr w) (τ + δ) k) refl
-        row_last false h t f =
-            rw (e, lt-ltb p (dep w) d, lt-ltb q (arr w) a, le-leb (dep w + δ) (arr w) h, lt-leb (arr w) (τ + δ) (f refl)) (sym (and-false (leb (dep w) τ && true)))
+      go : (k ≡ false) ⊎ (d ≤ p) ⊎ (a ≤ q) ⊎ (a < d + δ) → false ≡ (fine && ltb p d && ltb q a && leb d τ && leb (d + δ) a && leb a (τ + δ))
+      go (inl e) = let f : fine ≡ false = sym x ∙ e in rw f refl
+      go (inr (inl l)) = rw (le-ltb p d l, and-false fine) refl
+      go (inr (inr (inl l))) = rw (le-ltb q a l, and-false (fine && ltb p d)) refl
+      go (inr (inr (inr l))) = rw (lt-leb (d + δ) a l, and-false (fine && ltb p d && ltb q a && leb d τ)) refl
 
 -- ---- the rows in use
 
 module _ (τ δ p q : ℕ) (ws : List ℕ) (i : ℕ) {r : Bool} (left : rows_well_formed τ δ p q (drop i ws) ≡ r) where
   -- A fine row is passed.
-  pub rows-turn : {b : Bool} → i < length ws → b ≡ row_well_formed τ δ p q (get_or ws i 0) → not b ≡ false
+  pub rows-turn : i < length ws → true ≡ row_well_formed τ δ p q (get_or ws i 0)
       → rows_well_formed τ δ (get departure_field (get_or ws i 0)) (get arrival_field (get_or ws i 0)) (drop (i + 1) ws) ≡ r
   unfolding rows_well_formed
-  rows-turn h f n = let e : row_well_formed τ δ p q (get_or ws i 0) ≡ true = passed f n in rw (add-one i) (rw (drop-cons ws i 0, e) at left)
+  rows-turn h f = let e : row_well_formed τ δ p q (get_or ws i 0) ≡ true = sym f in rw (add-one i) (rw (drop-cons ws i 0, e) at left)
 
   -- Any other ends the check.
-  pub rows-stop : {b : Bool} → i < length ws → b ≡ row_well_formed τ δ p q (get_or ws i 0) → not b ≡ true → false ≡ r
+  pub rows-stop : i < length ws → false ≡ row_well_formed τ δ p q (get_or ws i 0) → false ≡ r
   unfolding rows_well_formed
-  rows-stop h f n = let e : row_well_formed τ δ p q (get_or ws i 0) ≡ false = stopped f n in rw (drop-cons ws i 0, e) at left
+  rows-stop h f = let e : row_well_formed τ δ p q (get_or ws i 0) ≡ false = sym f in rw (drop-cons ws i 0, e) at left
 
   -- No row is left to check.
   pub rows_end : length ws ≤ i → true ≡ r
@@ -97,18 +94,17 @@ unused-or x y = go (eq_outcome x 0) (eq_outcome y 0)
     go (holds h) (fails k) = ne_eqb (bit_or x y) 0 (λ z. k (omega (arith, or_add_and x y, and_le_l x y)))
     go (fails h) o = ne_eqb (bit_or x y) 0 (λ z. h (omega (arith, or_add_and x y, and_le_r x y)))
 
-module _ (ws : List ℕ) (i x : ℕ) {r : Bool} (left : (is_of unused_layout x && all_unused (drop i ws)) ≡ r) where
-  -- A word joined is a word checked.
-  pub unused-turn : (y : ℕ) → i < length ws → y ≡ bit_or x (get_or ws i 0) → (is_of unused_layout y && all_unused (drop (i + 1) ws)) ≡ r
-  unfolding all_unused
-  unused-turn y h e =
-      rw (add-one i, e, unused-or x (get_or ws i 0))
-      (and_assoc (is_of unused_layout x) (is_of unused_layout (get_or ws i 0)) (all_unused (drop (suc i) ws)) ∙ rw (drop-cons ws i 0) at left)
+-- All words joined, from bits x on, are zero exactly when x is zero and every word is unused.
+joined-from : (ws : List ℕ) (x : ℕ) → is_of unused_layout (fold bit_or x ws) ≡ (is_of unused_layout x && all_unused ws)
+unfolding all_unused
+joined-from [] x = sym (and-true (is_of unused_layout x))
+joined-from (w ∷ ws) x =
+    joined-from ws (bit_or x w) ∙ ap (λ (b : Bool). b && all_unused ws) (unused-or x w)
+    ∙ and_assoc (is_of unused_layout x) (is_of unused_layout w) (all_unused ws)
 
-  -- No word is left to join.
-  pub unused-end : length ws ≤ i → is_of unused_layout x ≡ r
-  unfolding all_unused
-  unused-end h = sym (and-true (is_of unused_layout x)) ∙ rw (drop_of_length-le ws h) at left
+-- All words joined are zero exactly when every word is unused.
+pub unused-joined : (ws : List ℕ) → is_of unused_layout (fold bit_or 0 ws) ≡ all_unused ws
+unused-joined ws = joined-from ws 0 ∙ rw unused_word-is refl
 
 -- ---- a cell
 

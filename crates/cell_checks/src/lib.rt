@@ -13,19 +13,7 @@ fn row_well_formed(w: u32, ticks: u32, carry: u32, p: u32, q: u32) -> bool
 {
     let d = words::departure_of(w);
     let a = words::arrival_of(w);
-    if !words::is_interval(w) {
-        return false;
-    }
-    if d <= p {
-        return false;
-    }
-    if a <= q {
-        return false;
-    }
-    if a < d + carry {
-        return false;
-    }
-    a < ticks + carry + 1
+    words::is_interval(w) && p < d && q < a && d + carry <= a && a <= ticks + carry
 }
 
 // Whether the rows are intervals in their limits whose departures and arrivals rise.
@@ -35,15 +23,12 @@ fn rows_well_formed(rows: &[u32], ticks: u32, carry: u32) -> bool
 {
     let mut p = 0;
     let mut q = 0;
-    let mut i = 0;
-    while i < rows.len() {
-        let w = rows[i];
-        if !row_well_formed(w, ticks, carry, p, q) {
+    for w in rows {
+        if !row_well_formed(*w, ticks, carry, p, q) {
             return false;
         }
-        p = words::departure_of(w);
-        q = words::arrival_of(w);
-        i += 1;
+        p = words::departure_of(*w);
+        q = words::arrival_of(*w);
     }
     true
 }
@@ -52,11 +37,7 @@ fn rows_well_formed(rows: &[u32], ticks: u32, carry: u32) -> bool
 fn all_unused(rest: &[u32]) -> bool
     ensures { result ≡ all_unused rest.now }
 {
-    let mut joined = 0;
-    for i in 0..rest.len() {
-        joined = joined | rest[i];
-    }
-    words::is_unused(joined)
+    words::is_unused(rest.iter().fold(0, |joined, w| joined | *w))
 }
 
 // Whether the words are a well-formed cell with at most `most` rows in use.

@@ -6,7 +6,7 @@ use native.Mathlib.Numerals.{add-one}
 use native.Mathlib.Omega.{arith}
 use lib.ListN.{length, get_or, take, drop, length-take, length-map, get_or-map}
 use lib.Seq.{get_or-take}
-use Rattle.journeys.specs.Journey.{Interval}
+use Rattle.journeys.specs.declared.Interval.{Interval}
 use Rattle.journeys.specs.Cell.{Rising}
 use Rattle.words.specs.Layout.{get}
 use Rattle.words.specs.Words.{rows_field, interval_of}

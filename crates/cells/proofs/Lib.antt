@@ -1,5 +1,4 @@
 pub mod Search
 pub mod Lent
 pub mod Rows
-pub mod Fitting
 pub mod RowLoop

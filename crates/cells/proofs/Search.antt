@@ -1,15 +1,17 @@
 -- What a search in a rising cell finds: the rows at the front have their end below t, and no other has.
+use Rattle.std.specs.Prelude.{None, Some}
+use Rattle.std.specs.List.Sorted.{IsPartitionedBy, IsPartitionPoint}
 use mathlib.Core.Path.{◌≡◌, refl, sym, ap}
-use mathlib.Core.Bool.{Bool, cond}
-use mathlib.Core.Option.{none, some}
+use mathlib.Core.Bool.{Bool, true, false, cond}
 use mathlib.Core.List.{List, [], ◌∷◌, map, Memᴰ}
-use Prim.Native.Nat.{ℕ, zero, suc, ◌+◌, ◌-◌, ◌/◌, ◌≤◌, ◌<◌}
+use Prim.Native.Nat.{ℕ, zero, suc, ◌+◌, ◌≤◌, ◌<◌}
 use native.Mathlib.Nat.{le_of_eq}
 use native.Mathlib.Omega.{arith}
+use lib.Dec.{leb}
 use lib.ListN.{length, get_or, length-map, get_or-map}
-use Rattle.journeys.specs.Journey.{Interval}
+use Rattle.journeys.specs.declared.Interval.{Interval}
 use Rattle.journeys.specs.Cell.{Cell, Rising, latest_departing, earliest_arriving}
-use Rattle.journeys.proofs.Tests.{Outcome, holds, fails, lt_outcome}
+use Rattle.journeys.proofs.Tests.{untrue, Outcome, holds, fails, le_outcome, lt_outcome}
 use Rattle.journeys.proofs.First.{first_some, first-none, latest-departing, earliest-arriving}
 use Rattle.journeys.proofs.Cover.{rising-after, one-arrival, one-departure}
 use Rattle.words.specs.Words.{interval_of}
@@ -102,59 +104,15 @@ module _ (f : Interval → ℕ) (t : ℕ) where
       go r (holds n) = omega arith
       go r (fails n) = absurd (omega (arith, later-end))
 
-  -- In a rising cell every row from the place on has its end at t or later.
-  pub front-from : Follows f → (c : Cell) (k : ℕ) (d : Interval) → Rising c → k < length c → front_below f t c ≤ k → t ≤ f (get_or c k d)
-  front-from up c k d u l h = go (lt_outcome (f (get_or c k d)) t)
+  -- A search that stops behind rows with their end below t, in front of rows with theirs at t or later, has found the place.
+  pub front-point : (c : Cell) (k : ℕ) (z : Interval) → k ≤ length c → ((m : ℕ) → m < k → f (get_or c m z) < t) → ((m : ℕ) → k ≤ m → m < length c → t ≤ f (get_or c m z))
+      → k ≡ front_below f t c
+  front-point c k z l below beyond = go (lt_outcome (front_below f t c) k) (lt_outcome k (front_below f t c))
     where
-      go : {b : Bool} → Outcome (f (get_or c k d) < t) (t ≤ f (get_or c k d)) b → t ≤ f (get_or c k d)
-      go (holds n) = absurd (omega (arith, front-gt up c k d u l n))
-      go (fails n) = n
-
-  module _ (rows : List ℕ) (k : ℕ) (l : k < length rows) where
-    -- The search stops at the latest at a word whose end is t or later.
-    pub front-le_word : t ≤ f (interval_of (get_or rows k 0)) → front_below f t (map interval_of rows) ≤ k
-    front-le_word h =
-        front-le (map interval_of rows) k (interval_of 0) (omega (arith, length-map rows interval_of)) (rw (get_or-map interval_of rows k 0) h)
-
-    -- Among rising rows it passes every word whose end is below t.
-    pub front-gt_word : Follows f → Rising (map interval_of rows) → f (interval_of (get_or rows k 0)) < t → k < front_below f t (map interval_of rows)
-    front-gt_word up u h =
-        front-gt up (map interval_of rows) k (interval_of 0) u (omega (arith, length-map rows interval_of)) (rw (get_or-map interval_of rows k 0) h)
-
--- ---- a search by halves
-
--- A search by halves for the end f and the tick t among the rows has come to lo and hi: its place lies between them.
-pub record Halves (f : Interval → ℕ) (t : ℕ) (rows : List ℕ) (lo hi : ℕ) : Type 0 where
-  pub lower : lo ≤ front_below f t (map interval_of rows)
-  pub upper : front_below f t (map interval_of rows) ≤ hi
-  pub within : hi ≤ length rows
-
--- The row that it looks at next.
-abbrev pub middle : ℕ → ℕ → ℕ
-middle lo hi = lo + (hi - lo) / 2
-
-module _ (f : Interval → ℕ) (t : ℕ) (rows : List ℕ) where
-  -- It starts with all rows.
-  pub halves_start : Halves f t rows 0 (length rows)
-  halves_start =
-      record { lower = omega arith; upper = omega (arith, front_length f t (map interval_of rows), length-map rows interval_of); within = omega arith }
-
-  module _ (lo hi : ℕ) (h : Halves f t rows lo hi) (l : lo < hi) where
-    -- Where the row has its end below t, it goes on behind it.
-    pub halves_behind : Follows f → Rising (map interval_of rows) → f (interval_of (get_or rows (middle lo hi) 0)) < t → Halves f t rows (middle lo hi + 1) hi
-    halves_behind up u e =
-        let w = h.within in
-        record { lower = omega (arith, front-gt_word f t rows (middle lo hi) (omega arith) up u e); upper = h.upper; within = w }
-
-    -- Where it has not, it goes on in front of it.
-    pub halves_front : t ≤ f (interval_of (get_or rows (middle lo hi) 0)) → Halves f t rows lo (middle lo hi)
-    halves_front e =
-        let w = h.within in
-        record { lower = h.lower; upper = front-le_word f t rows (middle lo hi) (omega arith) e; within = omega arith }
-
-  -- Where nothing is left between them, the place is found.
-  pub halves_end : (lo hi : ℕ) → Halves f t rows lo hi → hi ≤ lo → lo ≡ front_below f t (map interval_of rows)
-  halves_end lo hi h l = omega (arith, h.lower, h.upper)
+      go : {a b : Bool} → Outcome (front_below f t c < k) (k ≤ front_below f t c) a → Outcome (k < front_below f t c) (front_below f t c ≤ k) b → k ≡ front_below f t c
+      go (holds h) q = absurd (omega (arith, below (front_below f t c) h, front_at c z (omega arith)))
+      go (fails h) (holds q) = absurd (omega (arith, front-before c k z q, beyond k (omega arith) (omega (arith, front_length c))))
+      go (fails h) (fails q) = omega arith
 
 -- ---- the row at the place
 
@@ -182,7 +140,7 @@ module _ (f : Interval → ℕ) (up : Follows f) where
 
 module _ (t : ℕ) (c : Cell) (z : Interval) where
   -- Where every row departs before t, no interval is asked for.
-  pub earliest_none : length c ≤ front_below departure_end t c → earliest_arriving c t ≡ none
+  pub earliest_none : length c ≤ front_below departure_end t c → earliest_arriving c t ≡ None
   earliest_none l = (first-none (earliest-arriving t c)).1 each
     where
       each : (j : Interval) → Memᴰ j c → ¬ (t ≤ j.departure)
@@ -190,7 +148,7 @@ module _ (t : ℕ) (c : Cell) (z : Interval) where
 
   module _ (u : Rising c) where
     -- Else the earliest arriving is the first row that departs at or after t.
-    pub earliest-some : front_below departure_end t c < length c → earliest_arriving c t ≡ some (get_or c (front_below departure_end t c) z)
+    pub earliest-some : front_below departure_end t c < length c → earliest_arriving c t ≡ Some (get_or c (front_below departure_end t c) z)
     earliest-some l =
         (first_some (λ i j m n h k. one-arrival i j c u m n (omega arith)) (earliest-arriving t c) (get_or c (front_below departure_end t c) z)).1
         (get_d_member c (front_below departure_end t c) z l, front_at departure_end t c z l, each)
@@ -202,14 +160,14 @@ module _ (t : ℕ) (c : Cell) (z : Interval) where
             rw r.2 at (not-before arrival_end arrival-follows c (front_below departure_end t c) r.0 z u p r.1)
 
     -- Where no row at the front arrives by t, no interval is asked for.
-    pub latest_none : front_below arrival_end (t + 1) c ≡ 0 → latest_departing c t ≡ none
+    pub latest_none : front_below arrival_end (t + 1) c ≡ 0 → latest_departing c t ≡ None
     latest_none e = (first-none (latest-departing t c)).1 each
       where
         each : (j : Interval) → Memᴰ j c → ¬ (j.arrival ≤ t)
         each j m h = let r = member-at c z m in omega (arith, front-gt arrival_end (t + 1) arrival-follows c r.0 z u r.1 (rw r.2 (let k : j.arrival < t + 1 = omega arith in k)))
 
     -- Else the latest departing is the last row that arrives by t.
-    pub latest-some : (k : ℕ) → front_below arrival_end (t + 1) c ≡ suc k → latest_departing c t ≡ some (get_or c k z)
+    pub latest-some : (k : ℕ) → front_below arrival_end (t + 1) c ≡ suc k → latest_departing c t ≡ Some (get_or c k z)
     latest-some k e =
         (first_some (λ i j m n h l. one-departure i j c u m n (omega arith)) (latest-departing t c) (get_or c k z)).1
         (get_d_member c k z inside, (let r = front-before arrival_end (t + 1) c k z (omega arith) in omega arith), each)
@@ -222,3 +180,52 @@ module _ (t : ℕ) (c : Cell) (z : Interval) where
             let r = member-at c z m in
             let p = front-gt arrival_end (t + 1) arrival-follows c r.0 z u r.1 (rw r.2 (let q : j.arrival < t + 1 = omega arith in q)) in
             rw r.2 at (not-before departure_end departure-follows c r.0 k z u (omega arith) inside)
+
+-- ---- a search of words
+
+module _ (f : Interval → ℕ) (t : ℕ) where
+  -- The test is whether the end of a row is below t.
+  abbrev pub Tests : (ℕ → Bool) → Type 0
+  Tests p = (w : ℕ) → Outcome (f (interval_of w) < t) (t ≤ f (interval_of w)) (p w)
+
+-- That a number is at most t is that it is below t + 1.
+pub by-outcome : (a t : ℕ) → Outcome (a < t + 1) (t + 1 ≤ a) (leb a t)
+by-outcome a t = go (le_outcome a t)
+  where
+    go : {b : Bool} → Outcome (a ≤ t) (t < a) b → Outcome (a < t + 1) (t + 1 ≤ a) b
+    go (holds h) = holds (omega arith)
+    go (fails h) = fails (omega arith)
+
+module _ (f : Interval → ℕ) (up : Follows f) (t : ℕ) (rows : List ℕ) (u : Rising (map interval_of rows)) where
+  module _ (p : ℕ → Bool) (o : Tests f t p) where
+    -- The rows that pass it stand at the front.
+    parted : IsPartitionedBy p rows
+    parted i j d l m h = go (o (get_or rows i d)) (o (get_or rows j d)) h
+      where
+        no-later : f (interval_of (get_or rows i d)) ≤ f (interval_of (get_or rows j d))
+        no-later =
+            rw (sym (get_or-map interval_of rows i d), sym (get_or-map interval_of rows j d))
+            (not-before f up (map interval_of rows) i j (interval_of d) u l (omega (arith, length-map rows interval_of)))
+
+        go : {a b : Bool} → Outcome (f (interval_of (get_or rows i d)) < t) (t ≤ f (interval_of (get_or rows i d))) a
+            → Outcome (f (interval_of (get_or rows j d)) < t) (t ≤ f (interval_of (get_or rows j d))) b → b ≡ true → a ≡ true
+        go (holds x) y e = refl
+        go (fails x) (holds y) e = absurd (omega (arith, no-later))
+        go (fails x) (fails y) e = e
+
+    -- Their number is the place.
+    pub point-is : (r : ℕ) → r ≤ length rows → (IsPartitionedBy p rows → IsPartitionPoint (λ w. p w ≡ true) (λ w. p w ≡ false) rows r)
+        → r ≡ front_below f t (map interval_of rows)
+    point-is r l clause =
+        let q = clause parted in
+        front-point f t (map interval_of rows) r (interval_of 0) (omega (arith, length-map rows interval_of))
+        (λ m h. rw (get_or-map interval_of rows m 0) (below (get_or rows m 0) (o (get_or rows m 0)) (q.0 m 0 (omega arith) h)))
+        (λ m h n. rw (get_or-map interval_of rows m 0) (beyond (get_or rows m 0) (o (get_or rows m 0)) (q.1 m 0 h (omega (arith, length-map rows interval_of)))))
+      where
+        below : (w : ℕ) {b : Bool} → Outcome (f (interval_of w) < t) (t ≤ f (interval_of w)) b → b ≡ true → f (interval_of w) < t
+        below w (holds x) e = x
+        below w (fails x) e = untrue e
+
+        beyond : (w : ℕ) {b : Bool} → Outcome (f (interval_of w) < t) (t ≤ f (interval_of w)) b → b ≡ false → t ≤ f (interval_of w)
+        beyond w (holds x) e = untrue (sym e)
+        beyond w (fails x) e = x

@@ -1,8 +1,7 @@
 -- One cell in lent memory: what the functions on it ask, what a search finds, and how a missing tick is said.
-use Rattle.std.specs.Prelude.{ℕ, suc, ◌+◌, ◌-◌, ◌≤◌, ◌<◌, ◌≡◌, cond, length, get_or, ltb}
-use mathlib.Core.Option.{Option, none, some}
+use Rattle.std.specs.Prelude.{ℕ, suc, ◌+◌, ◌-◌, ◌≤◌, ◌<◌, ◌≡◌, cond, length, get_or, ltb, Option, None, Some}
 use mathlib.Core.List.{List, [], ◌∷◌, Memᴰ}
-use Rattle.journeys.specs.Journey.{Interval}
+use Rattle.journeys.specs.declared.Interval.{Interval}
 use Rattle.journeys.specs.Cell.{Cell, Rising}
 use Rattle.words.specs.Layout.{get}
 use Rattle.words.specs.Words.{rows_field}
@@ -46,5 +45,5 @@ front_below f t (i ∷ c) = cond (ltb (f i) t) (suc (front_below f t c)) 0
 
 -- A tick, or 0 where there is none; ticks begin at 1.
 abbrev pub or_zero : Option ℕ → ℕ
-or_zero none = 0
-or_zero (some t) = t
+or_zero None = 0
+or_zero (Some t) = t

@@ -5,13 +5,13 @@ ghost use Rattle.std.specs.Prelude.{◌≡◌};
 ghost use Rattle.journeys.specs.Journey.{contact};
 ghost use Rattle.rules.specs.Counting.{counted_answer, counted_leaves, counted_tally};
 
-use rules::{AddAnswer, Refusal, Tally};
+use rules::{Added, Refusal, Tally};
 
 // What a counted add gives: its answer, and the tally afterwards.
 #[derive(Clone, Copy)]
 pub struct Counted {
     pub tally: Tally,
-    pub answer: AddAnswer,
+    pub answer: Result<Added, Refusal>,
 }
 
 // The counted add on a tally by value. Refuses with 16, 5, 6, 7, 8, 9.
@@ -23,7 +23,7 @@ pub fn add_counted(table: &mut [u32], tally: Tally, u: u32, v: u32, t: u32) -> C
     if !tallies::has_room(tally) {
         return Counted {
             tally,
-            answer: AddAnswer::Refused(Refusal::TallyFull),
+            answer: Err(Refusal::TallyFull),
         };
     }
     let answer = engine::add_contact(table, u, v, t);
@@ -34,7 +34,13 @@ pub fn add_counted(table: &mut [u32], tally: Tally, u: u32, v: u32, t: u32) -> C
 }
 
 // Adds the contact and moves the tally lent by the caller. Refuses with 16, 5, 6, 7, 8, 9.
-pub fn counted_add(table: &mut [u32], tally: &mut Tally, u: u32, v: u32, t: u32) -> AddAnswer
+pub fn counted_add(
+    table: &mut [u32],
+    tally: &mut Tally,
+    u: u32,
+    v: u32,
+    t: u32,
+) -> Result<Added, Refusal>
     ensures tally_after { tally.exit.now ≡ counted_tally tally.entry.now table.old (contact u v t) }
     ensures value { result ≡ counted_answer tally.entry.now table.old (contact u v t) }
     ensures table_after { table.new ≡ counted_leaves tally.entry.now table.old (contact u v t) }

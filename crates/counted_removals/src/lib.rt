@@ -5,13 +5,13 @@ ghost use Rattle.std.specs.Prelude.{◌≡◌};
 ghost use Rattle.journeys.specs.Journey.{contact};
 ghost use Rattle.rules.specs.Counting.{counted_removal, counted_removal_leaves, counted_removal_work, counted_removal_tally};
 
-use rules::{DoneAnswer, Refusal, Tally};
+use rules::{Refusal, Tally};
 
 // What a counted removal gives: its answer, and the tally afterwards.
 #[derive(Clone, Copy)]
 pub struct Removed {
     pub tally: Tally,
-    pub answer: DoneAnswer,
+    pub answer: Result<(), Refusal>,
 }
 
 // The counted removal on a tally by value. Refuses with 16, 5, 6, 20, 7, 8, 9, 21.
@@ -31,7 +31,7 @@ pub fn remove_counted(
     if !tallies::has_room(tally) {
         return Removed {
             tally,
-            answer: DoneAnswer::Refused(Refusal::TallyFull),
+            answer: Err(Refusal::TallyFull),
         };
     }
     let answer = engine::remove(table, work, u, v, t);
@@ -49,7 +49,7 @@ pub fn counted_remove(
     u: u32,
     v: u32,
     t: u32,
-) -> DoneAnswer
+) -> Result<(), Refusal>
     ensures tally_after { tally.exit.now ≡ counted_removal_tally tally.entry.now table.old work.old (contact u v t) }
     ensures value { result ≡ counted_removal tally.entry.now table.old work.old (contact u v t) }
     ensures table_after { table.new ≡ counted_removal_leaves tally.entry.now table.old work.old (contact u v t) }

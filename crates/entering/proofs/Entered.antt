@@ -1,4 +1,5 @@
 -- The words of a cell that an interval enters.
+use Rattle.std.specs.Prelude.{Some}
 use Prim.Native.Nat.{ℕ, zero, suc, ◌+◌, ◌-◌, ◌<◌, ◌≤◌}
 use mathlib.Core.Path.{◌≡◌, refl, sym, ap, ap₂, ◌∙◌}
 use mathlib.Core.Logic.{⊎_elim}
@@ -8,20 +9,23 @@ use native.Mathlib.Nat.{not-suc-le-zero, le_of_eq}
 use native.Mathlib.Omega.{arith}
 use lib.ListN.{length, get_or, take, drop, set, length-drop, length-map, drop_of_length-le}
 use lib.Seq.{take_all, take_at}
-use Rattle.journeys.specs.Journey.{Interval, interval}
+use Rattle.journeys.specs.declared.Interval.{Interval}
 use Rattle.journeys.specs.Cell.{Cell, has_inside, enter}
 use Rattle.journeys.proofs.Cover.{departure-path}
 use Rattle.journeys.proofs.Enter.{enter-members, enter-rising}
 use Rattle.words.specs.Layout.{get}
 use Rattle.words.specs.Words.{count_word, rows_field, interval_word}
-use Rattle.rules.specs.Limits.{max_cell_words}
+use Rattle.rules.specs.Limits.{max_cell_words, max_arrival}
 use Rattle.rules.specs.Layout.{cell_words, cell_of}
-use Rattle.cells.specs.Stored.{Stored, departure_end, arrival_end, front_below}
+use Rattle.cells.specs.Stored.{Stored, departure_end}
 use Rattle.cells.proofs.Search.{departure-follows, front_length}
 use Rattle.cells.proofs.Lent.{count-is, count_fits}
+use Rattle.entering.specs.declared.places.Slot.{Slot}
+use Rattle.entering.specs.Slots.{slot_of}
 use Rattle.entering.specs.Rows.{unused, padded, spliced}
 use Rattle.entering.proofs.Front.{past_up}
 use Rattle.entering.proofs.Splice.{enter-spliced, enter-same, arrive_le, rows-within}
+use Rattle.entering.proofs.Slots.{slot-says}
 use Rattle.entering.proofs.Replace.{spliced-length}
 
 -- ---- lists
@@ -80,22 +84,22 @@ module _ (xs : List ℕ) (S : Stored xs) where
       ap (take n) (behind-is xs ∙ rows_are)
       ∙ take_at (map interval_word (cell_of xs)) (unused (length xs - 1 - length (cell_of xs))) n (length-map (cell_of xs) interval_word ∙ sym (en ∙ count-is xs S))
 
-  -- Where an interval lies inside [d, a], the words stay as they are.
-  pub same : (d a : ℕ) → has_inside (interval d a) (cell_of xs) ≡ true → xs ≡ cell_words (length xs - 1) (enter (interval d a) (cell_of xs))
-  same d a e = S.words ∙ ap (cell_words (length xs - 1)) (sym (enter-same (interval d a) (cell_of xs) e))
+  -- Where an interval lies inside i, the words stay as they are.
+  pub same : (i : Interval) → has_inside i (cell_of xs) ≡ true → xs ≡ cell_words (length xs - 1) (enter i (cell_of xs))
+  same i e = S.words ∙ ap (cell_words (length xs - 1)) (sym (enter-same i (cell_of xs) e))
 
 -- ---- where an interval goes
 
--- [d, a] takes the place of the rows from lo to hi - 1 of the n rows in use.
-pub record Goes (xs : List ℕ) (d a n lo hi : ℕ) : Type 0 where
-  pub lo-hi : lo ≤ hi
-  pub hi-n : hi ≤ n
+-- i takes the place of the rows of the slot, of the n rows in use.
+pub record Goes (xs : List ℕ) (i : Interval) (n : ℕ) (s : Slot) : Type 0 where
+  pub lo-hi : s.lo ≤ s.hi
+  pub hi-n : s.hi ≤ n
   pub n_len : n + 1 ≤ length xs
   pub short : length xs ≤ max_cell_words
-  pub fits : lo + 1 + (n - hi) + 1 ≤ length xs
-  pub count : length (enter (interval d a) (cell_of xs)) ≡ lo + 1 + (n - hi)
-  pub is : enter (interval d a) (cell_of xs) ≡ spliced (cell_of xs) lo hi (interval d a)
-  pub new : has_inside (interval d a) (cell_of xs) ≡ false
+  pub fits : s.lo + 1 + (n - s.hi) + 1 ≤ length xs
+  pub count : length (enter i (cell_of xs)) ≡ s.lo + 1 + (n - s.hi)
+  pub is : enter i (cell_of xs) ≡ spliced (cell_of xs) s.lo s.hi i
+  pub new : has_inside i (cell_of xs) ≡ false
 
 -- A cell that an interval entered has room, since its departures are different ticks.
 room : (xs : List ℕ) (i : Interval) → Stored xs → 1 ≤ i.departure → i.departure < length xs → length (enter i (cell_of xs)) ≤ length xs - 1
@@ -107,51 +111,50 @@ room xs i S l m = rows-within (length xs - 1) (enter i (cell_of xs)) (enter-risi
         (λ (h : Memᴰ j (cell_of xs)). let p = S.departs j h in let q = S.in_time j h in (omega arith, omega arith))
         (enter-members i (cell_of xs) k)
 
--- Where no interval lies inside [d, a], the searches for its place found where it goes.
-pub goes : (xs : List ℕ) (d a n lo hi : ℕ) → Stored xs → n ≡ get rows_field (get_or xs 0 0) → 1 ≤ d → d < length xs
-    → has_inside (interval d a) (cell_of xs) ≡ false
-    → lo ≡ front_below arrival_end a (cell_of xs) → hi ≡ front_below departure_end (d + 1) (cell_of xs) → Goes xs d a n lo hi
-goes xs d a n lo hi S en d₁ d₂ e el eh =
+-- The slot of i says where it goes.
+pub slot-goes : {xs : List ℕ} {i : Interval} {n : ℕ} {s : Slot} → Stored xs → n ≡ get rows_field (get_or xs 0 0)
+    → (1 ≤ i.departure) × (i.departure < length xs) × (i.arrival ≤ max_arrival) → slot_of i (cell_of xs) ≡ Some s → Goes xs i n s
+slot-goes {xs} {i} {n} {s} S en le q =
     let c : Cell = cell_of xs in
-    let i : Interval = interval d a in
+    let (e, el, eh) = slot-says i c q in
     let len : n ≡ length c = en ∙ count-is xs S in
-    let h₁ : lo ≤ hi = omega (arith, arrive_le i c i S.rising e, past_up departure_end departure-follows d c i S.rising) in
-    let h₂ : hi ≤ length c = omega (arith, front_length departure_end (d + 1) c) in
-    let j : enter i c ≡ spliced c lo hi i = rw (el, eh) (enter-spliced i c S.rising e) in
-    let k : length (enter i c) ≡ lo + 1 + (n - hi) = ap length j ∙ spliced-length c lo hi i h₁ h₂ ∙ ap (λ (m : ℕ). lo + 1 + (m - hi)) (sym len) in
+    let h₁ : s.lo ≤ s.hi = omega (arith, arrive_le i c i S.rising e, past_up departure_end departure-follows i.departure c i S.rising) in
+    let h₂ : s.hi ≤ length c = omega (arith, front_length departure_end (i.departure + 1) c) in
+    let j : enter i c ≡ spliced c s.lo s.hi i = rw (el, eh) (enter-spliced i c S.rising e) in
+    let k : length (enter i c) ≡ s.lo + 1 + (n - s.hi) = ap length j ∙ spliced-length c s.lo s.hi i h₁ h₂ ∙ ap (λ (m : ℕ). s.lo + 1 + (m - s.hi)) (sym len) in
     record {
       lo-hi = h₁;
       hi-n = omega arith;
       n_len = omega (arith, count_fits xs S);
       short = S.short;
-      fits = omega (arith, room xs i S d₁ d₂, S.long);
+      fits = omega (arith, room xs i S le.0 le.1, S.long);
       count = k;
       is = j;
       new = e;
     }
 
-module _ (xs : List ℕ) (d a n lo hi : ℕ) (S : Stored xs) (en : n ≡ get rows_field (get_or xs 0 0)) (g : Goes xs d a n lo hi) where
+module _ (xs : List ℕ) (i : Interval) (n : ℕ) (s : Slot) (S : Stored xs) (en : n ≡ get rows_field (get_or xs 0 0)) (g : Goes xs i n s) where
   -- The lent rows are as the replacing asks.
-  pub ready : ((lo ≤ hi) × (hi ≤ n) × (n ≤ length (behind xs)) × (lo + 1 + (n - hi) ≤ length (behind xs)))
+  pub ready : ((s.lo ≤ s.hi) × (s.hi ≤ n) × (n ≤ length (behind xs)) × (s.lo + 1 + (n - s.hi) ≤ length (behind xs)))
       × (behind xs ≡ padded (length (behind xs)) (take n (behind xs)))
   ready =
       let l : length (behind xs) ≡ length xs - 1 = behind-length xs in
       ((g.lo-hi, g.hi-n, omega (arith, g), omega (arith, g)), behind-is xs ∙ rows-padded xs S ∙ ap₂ padded (sym l) (sym (used_are xs S n en)))
 
   -- The cell after the replacing, with the new count.
-  pub entered : (ys : List ℕ) (w v : ℕ) → w ≡ interval_word (interval d a) → ys ≡ padded (length (behind xs)) (spliced (take n (behind xs)) lo hi w)
-      → v ≡ count_word (lo + 1 + (n - hi))
-      → set (take 1 xs ++ (ys ++ drop (length xs - 1) (drop 1 xs))) 0 v ≡ cell_words (length xs - 1) (enter (interval d a) (cell_of xs))
+  pub entered : (ys : List ℕ) (w v : ℕ) → w ≡ interval_word i → ys ≡ padded (length (behind xs)) (spliced (take n (behind xs)) s.lo s.hi w)
+      → v ≡ count_word (s.lo + 1 + (n - s.hi))
+      → set (take 1 xs ++ (ys ++ drop (length xs - 1) (drop 1 xs))) 0 v ≡ cell_words (length xs - 1) (enter i (cell_of xs))
   unfolding padded cell_words
   entered ys w v ew ey ev = put_first xs ys v S.long ∙ ap₂ ◌∷◌ (ev ∙ ap count_word (sym g.count)) rest
     where
       new : Cell
-      new = enter (interval d a) (cell_of xs)
+      new = enter i (cell_of xs)
 
-      rows : spliced (take n (behind xs)) lo hi w ≡ map interval_word new
+      rows : spliced (take n (behind xs)) s.lo s.hi w ≡ map interval_word new
       rows =
-          ap₂ (λ (l : List ℕ) (x : ℕ). spliced l lo hi x) (used_are xs S n en) ew
-          ∙ spliced-map interval_word (cell_of xs) lo hi (interval d a)
+          ap₂ (λ (l : List ℕ) (x : ℕ). spliced l s.lo s.hi x) (used_are xs S n en) ew
+          ∙ spliced-map interval_word (cell_of xs) s.lo s.hi i
           ∙ ap (map interval_word) (sym g.is)
 
       rest : ys ≡ map interval_word new ++ unused (length xs - 1 - length new)

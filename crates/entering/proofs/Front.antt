@@ -6,7 +6,7 @@ use mathlib.Core.Bool.{Bool}
 use mathlib.Core.List.{[], ◌∷◌}
 use native.Mathlib.Omega.{arith}
 use lib.ListN.{length, get_or}
-use Rattle.journeys.specs.Journey.{Interval}
+use Rattle.journeys.specs.declared.Interval.{Interval}
 use Rattle.journeys.specs.Cell.{Cell, Rising}
 use Rattle.journeys.proofs.Tests.{Outcome, holds, fails, lt_outcome}
 use Rattle.cells.specs.Stored.{front_below}

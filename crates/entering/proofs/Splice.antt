@@ -6,7 +6,8 @@ use mathlib.Core.Bool.{Bool, true, false, cond}
 use mathlib.Core.List.{[], ◌∷◌, Memᴰ}
 use native.Mathlib.Omega.{arith}
 use lib.ListN.{length, get_or}
-use Rattle.journeys.specs.Journey.{Interval, Inside}
+use Rattle.journeys.specs.declared.Interval.{Interval}
+use Rattle.journeys.specs.Journey.{Inside}
 use Rattle.journeys.specs.Cell.{Cell, Before, Rising, has_inside, without_containing, put_in_order, enter}
 use Rattle.journeys.proofs.Tests.{Outcome, holds, fails, le_outcome, lt_outcome, inside-outcome}
 use Rattle.journeys.proofs.Cover.{Covers, here, there, member-covers, has_inside-outcome}

@@ -1,10 +1,6 @@
 -- Rows of a cell as a list, and what the moves do to them.
-use Rattle.std.specs.Prelude.{ℕ, ◌+◌, ◌-◌, List, ◌∷◌, ◌++◌, length, take, drop, replicate}
+use Rattle.std.specs.Prelude.{ℕ, ◌-◌, List, ◌∷◌, ◌++◌, length, take, drop, replicate}
 use Rattle.words.specs.Words.{unused_word}
-
--- d with the first n of s written over it from index at on.
-unfoldable pub overwrite_at : List ℕ → ℕ → List ℕ → ℕ → List ℕ
-overwrite_at d at s n = take at d ++ take n s ++ drop (at + n) d
 
 -- n unused words.
 abbrev pub unused : ℕ → List ℕ

@@ -4,3 +4,4 @@ pub mod Reading
 pub mod Walk
 pub mod Flat
 pub mod Steps
+pub mod CellNumbers

@@ -2,13 +2,14 @@
 use Prim.Native.Nat.{ℕ, ◌+◌, ◌-◌, ◌*◌, ◌<◌, ◌≤◌}
 use mathlib.Core.Path.{◌≡◌, refl, sym, ap, ◌∙◌}
 use mathlib.Core.List.{List, ◌++◌, append_assoc}
+use native.Mathlib.Nat.{zero-mul}
 use native.Mathlib.Numerals.{add-one}
 use native.Mathlib.Omega.{arith}
 use lib.ListN.{length, take, drop, length-append}
 use lib.Seq.{drop_at, drop-drop, length-take-le}
 use borrow.Rule.Slice.PartMut.{same_len_mid}
 use Rattle.grid.specs.Parts.{part, parts}
-use Rattle.grid.proofs.Places.{lent-words, lent_length}
+use Rattle.grid.proofs.Places.{lent-words, lent_length, next-part}
 use Rattle.grid.proofs.Reading.{Through, through-start, through-room, through-turn}
 
 -- What lies past a replaced part is as it was.
@@ -64,3 +65,13 @@ module _ {f : ℕ → List ℕ → List ℕ} {s n : ℕ} {l out : List ℕ} {at 
 
   pub walk_end : n ≤ y → out ≡ parts f s n l
   walk_end h = let e : y ≡ n = omega (arith, w.through.below) in w.is ∙ ap (λ (k : ℕ). parts f s k l) e
+
+-- ---- the same where the place of a part is computed from its number
+
+pub walk_first : (f : ℕ → List ℕ → List ℕ) (s n : ℕ) (l : List ℕ) → Walk f s n l l (0 * s) 0
+walk_first f s n l = rw (zero-mul s) (walk_start f s n l)
+
+pub walk_next : {f : ℕ → List ℕ → List ℕ} {s n : ℕ} {l out : List ℕ} {y : ℕ} → Walk f s n l out (y * s) y → n * s ≤ length l → y < n → (new : List ℕ)
+    → length new ≡ length (take (y * s + s - y * s) (drop (y * s) out)) → new ≡ f y (take (y * s + s - y * s) (drop (y * s) out))
+    → Walk f s n l (take (y * s) out ++ (new ++ drop (y * s + s - y * s) (drop (y * s) out))) ((y + 1) * s) (y + 1)
+walk_next {s} {y} w h t new en ef = rw (next-part y s) (walk_turn w h t new en ef)

@@ -4,7 +4,7 @@
 
 ghost use Rattle.std.specs.Prelude.{◌≡◌};
 ghost use Rattle.journeys.specs.Journey.{contact};
-ghost use Rattle.rules.specs.Answers.{open_reply, add_reply, write_reply, read_reply, join_reply, stays_reply, done_reply, ask_reply, interval_reply, set_reply, chain_reply};
+ghost use Rattle.rules.specs.Answers.{done_reply, add_reply, number_reply, ask_reply, interval_reply, set_reply, chain_reply};
 ghost use Rattle.rules.specs.Opening.{open_answer, open_leaves};
 ghost use Rattle.rules.specs.Adding.{add_answer, add_leaves};
 ghost use Rattle.rules.specs.Logs.{write_answer, write_leaves};
@@ -12,17 +12,17 @@ ghost use Rattle.rules.specs.Reading.{read_answer, read_leaves};
 ghost use Rattle.rules.specs.Removing.{remove_answer, remove_leaves, remove_work};
 ghost use Rattle.rules.specs.Joining.{join_answer, join_leaves};
 ghost use Rattle.rules.specs.Stays.{stays_answer, stays_leaves};
-ghost use Rattle.rules.specs.Questions.{reach_answer, earliest_answer, latest_answer, connected_answer, reached_answer, reached_count, reached_leaves};
+ghost use Rattle.rules.specs.Questions.{reach_answer, earliest_answer, latest_answer, connected_answer, reached_set, reached_leaves};
 ghost use Rattle.rules.specs.Chains.{chain_answer, chain_leaves};
 ghost use Rattle.rules.specs.Claims.{claimed_answer};
 
 // Opens a table: 1 opened, 0 refused.
 #[unsafe(no_mangle)]
 pub extern "C" fn herd_open(table: &mut [u32], animals: u32, ticks: u32, carry: u32) -> u64
-    ensures value { result ≡ open_reply (open_answer animals ticks carry table.old) }
+    ensures value { result ≡ done_reply (open_answer animals ticks carry table.old) }
     ensures table_after { table.new ≡ open_leaves animals ticks carry table.old }
 {
-    replies::of_open(engine::open_table(table, animals, ticks, carry))
+    replies::of_done(engine::open_table(table, animals, ticks, carry))
 }
 
 // Adds a contact: 1 new, 2 known, each with the number of cells changed, 0 refused.
@@ -47,37 +47,37 @@ pub extern "C" fn herd_remove(table: &mut [u32], work: &mut [u32], u: u32, v: u3
 // Joins the second table into the first: 1 joined, with the number of contacts new to the first, 0 refused.
 #[unsafe(no_mangle)]
 pub extern "C" fn herd_join(first: &mut [u32], second: &[u32]) -> u64
-    ensures value { result ≡ join_reply (join_answer first.old second.now) }
+    ensures value { result ≡ number_reply (join_answer first.old second.now) }
     ensures first_after { first.new ≡ join_leaves first.old second.now }
 {
-    replies::of_join(engine::join(first, second))
+    replies::of_number(engine::join(first, second))
 }
 
 // Adds the contacts of stays, four words to a record: 1 added, with the number of contacts new to the table, 0 refused.
 #[unsafe(no_mangle)]
 pub extern "C" fn herd_stays(table: &mut [u32], stays: &[u32]) -> u64
-    ensures value { result ≡ stays_reply (stays_answer table.old stays.now) }
+    ensures value { result ≡ number_reply (stays_answer table.old stays.now) }
     ensures table_after { table.new ≡ stays_leaves table.old stays.now }
 {
-    replies::of_stays(engine::add_stays(table, stays))
+    replies::of_number(engine::add_stays(table, stays))
 }
 
 // Reads a log into a table: 1 read, with the number of different contacts, 0 refused.
 #[unsafe(no_mangle)]
 pub extern "C" fn herd_read_log(log: &[u32], table: &mut [u32]) -> u64
-    ensures value { result ≡ read_reply (read_answer log.now table.old) }
+    ensures value { result ≡ number_reply (read_answer log.now table.old) }
     ensures table_after { table.new ≡ read_leaves log.now table.old }
 {
-    replies::of_read(engine::read_log(log, table))
+    replies::of_number(engine::read_log(log, table))
 }
 
 // Writes a table's log: 1 written, with the number of words, 0 refused.
 #[unsafe(no_mangle)]
 pub extern "C" fn herd_write_log(table: &[u32], buffer: &mut [u32]) -> u64
-    ensures value { result ≡ write_reply (write_answer table.now buffer.old) }
+    ensures value { result ≡ number_reply (write_answer table.now buffer.old) }
     ensures buffer_after { buffer.new ≡ write_leaves table.now buffer.old }
 {
-    replies::of_write(engine::write_log(table, buffer))
+    replies::of_number(engine::write_log(table, buffer))
 }
 
 // Asks whether v can have been reached from u in a window: 1 yes, 2 no, 0 refused.
@@ -133,13 +133,12 @@ pub extern "C" fn herd_connected(table: &[u32], first: u32, last: u32) -> u64
 // Writes the set of the animals reached from u in a window: 1 a set, with the number of its animals, 0 refused.
 #[unsafe(no_mangle)]
 pub extern "C" fn herd_reached(table: &[u32], u: u32, first: u32, last: u32, set: &mut [u32]) -> u64
-    ensures value { result ≡ set_reply (reached_answer table.now u first last) (reached_count table.now u first last) }
+    ensures value { result ≡ set_reply (reached_set table.now u first last) }
     ensures set_after { set.new ≡ reached_leaves table.now u first last set.old }
 {
     let found = questions::reached(table, u, first, last);
-    replies::put_set(found, set);
-    let answer = found.answer;
-    replies::of_set(answer, found.set.count)
+    replies::put_set(&found, set);
+    replies::of_set(found)
 }
 
 // Asks whether words are a journey of held contacts from u to v that fits a window: 1 yes, 2 no, 0 refused.

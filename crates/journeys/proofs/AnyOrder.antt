@@ -7,7 +7,8 @@ use mathlib.Core.List.{List, [], ◌∷◌, Memᴰ}
 use Prim.Native.Nat.{ℕ, ◌+◌, ◌≤◌}
 use native.Mathlib.Omega.{arith}
 use native.Mathlib.Decide.{ℕ_discrete}
-use Rattle.journeys.specs.Journey.{Contact, contact, Contacts, In, Same, interval}
+use Rattle.journeys.specs.declared.Contact.{Contact}
+use Rattle.journeys.specs.Journey.{contact, Contacts, In, Same, interval}
 use Rattle.journeys.specs.Cell.{Cell, WellFormedCell}
 use Rattle.journeys.specs.Adding.{Cells, add, add_all, WellFormed}
 use Rattle.journeys.specs.Theorems.{AnyOrder}

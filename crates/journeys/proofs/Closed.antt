@@ -1,15 +1,17 @@
 -- A cell that covers what its pair can reach by a set of contacts alone lists the pair's minimal intervals, and the other way round. On top of
 -- any cells, the add rule takes what can be reached by a set of contacts to what can be reached with one contact more.
+use Rattle.std.specs.Prelude.{Option, Some}
 use mathlib.Core.Path.{◌≡◌, refl, sym, subst, ◌∙◌}
 use mathlib.Core.Logic.{◌↔◌, inl, inr, ⊎_elim, ◌≢◌}
 use mathlib.Core.Bool.{Bool, cond}
-use mathlib.Core.Option.{Option, some}
 use mathlib.Core.List.Memᴰ
 use mathlib.Core.List.{List, [], ◌∷◌, Memᴰ}
 use Prim.Native.Nat.{ℕ, zero, suc, ◌+◌, ◌≤◌}
 use native.Mathlib.Omega.{arith}
 use native.Mathlib.Decide.{ℕ_discrete}
-use Rattle.journeys.specs.Journey.{Contact, Contacts, In, With, Union, Same, Interval, interval, Inside, Journey, Minimal}
+use Rattle.journeys.specs.declared.Contact.{Contact}
+use Rattle.journeys.specs.declared.Interval.{Interval}
+use Rattle.journeys.specs.Journey.{Contacts, In, With, Union, Same, interval, Inside, Journey, Minimal}
 use Rattle.journeys.specs.Cell.{Cell, Rising, latest_departure, earliest_arrival}
 use Rattle.journeys.specs.Adding.{Cells, departure_of, arrival_of, enter_both, add, add_all, ListsMinimal}
 use Rattle.journeys.proofs.Tests.{Outcome, holds, fails, eq_outcome}
@@ -110,7 +112,7 @@ module _ {B : Cells} (w : Forward B) {S : Contacts} {δ : ℕ} (T : Cells) (k : 
   departure-iff x a f = go (eq_outcome x k.from)
     where
       go : {b : Bool} → Outcome (x ≡ k.from) (x ≢ k.from) b
-          → NotBefore a (cond b (some k.tick) (latest_departure (T x k.from) k.tick)) ↔ Reach B S δ k.from k.tick x a
+          → NotBefore a (cond b (Some k.tick) (latest_departure (T x k.from) k.tick)) ↔ Reach B S δ k.from k.tick x a
       go (holds e) = (λ h. direct (stay e h), reach-le w)
       go (fails n) = (
         λ h. ((f n).covers (interval a k.tick)).0 ((latest-iff a k.tick (T x k.from)).0 h),
@@ -122,7 +124,7 @@ module _ {B : Cells} (w : Forward B) {S : Contacts} {δ : ℕ} (T : Cells) (k : 
   arrival-iff y b f = go (eq_outcome y k.to)
     where
       go : {q : Bool} → Outcome (y ≡ k.to) (y ≢ k.to) q
-          → NotAfter b (cond q (some (k.tick + δ)) (earliest_arrival (T k.to y) (k.tick + δ))) ↔ Reach B S δ y b k.to (k.tick + δ)
+          → NotAfter b (cond q (Some (k.tick + δ)) (earliest_arrival (T k.to y) (k.tick + δ))) ↔ Reach B S δ y b k.to (k.tick + δ)
       go (holds e) = (λ h. direct (stay (sym e) h), reach-le w)
       go (fails n) = (
         λ h. ((f (λ e. n (sym e))).covers (interval (k.tick + δ) b)).0 ((earliest-iff (k.tick + δ) b (T k.to y)).0 h),

@@ -1,12 +1,13 @@
 -- A cell is known by what it covers: an interval is covered where some interval of the cell lies inside it.
+use Rattle.std.specs.Prelude.{Option, None, Some, option_map}
 use mathlib.Core.Path.{◌≡◌, refl, sym, ap, ap₂}
 use mathlib.Core.Logic.{◌↔◌, ◌⊎◌, inl, inr, ⊎_elim}
 use mathlib.Core.Bool.{Bool, ◌||◌}
-use mathlib.Core.Option.{Option, none, some, map}
 use mathlib.Core.List.{[], ◌∷◌, Memᴰ}
 use Prim.Native.Nat.{ℕ, ◌≤◌, ◌<◌}
 use native.Mathlib.Omega.{arith}
-use Rattle.journeys.specs.Journey.{Interval, interval, Inside}
+use Rattle.journeys.specs.declared.Interval.{Interval}
+use Rattle.journeys.specs.Journey.{interval, Inside}
 use Rattle.journeys.specs.Cell.{Cell, Rising, latest_departing, latest_departure, earliest_arrival, has_inside}
 use Rattle.journeys.proofs.Tests.{Outcome, holds, fails, either, inside-outcome}
 use Rattle.journeys.proofs.First.{FirstOf, nothing-asked, first-asked, first_some, DepartsFrom, ArrivesBy, ArrivesNoLater, DepartsNoEarlier, latest-departing, earliest-arriving}
@@ -85,7 +86,7 @@ pub one-departure : (i j : Interval) (c : Cell) → Rising c → Memᴰ i c → 
 one-departure i j c u m n e = one_inside i j c u m n (⊎_elim (λ h. inl (omega arith, h)) (λ h. inr (omega arith, h)) (either i.arrival j.arrival))
 
 -- In a rising cell an interval departs latest, of those that arrive by its own arrival.
-pub latest-itself : (i : Interval) (c : Cell) → Rising c → Memᴰ i c → latest_departing c i.arrival ≡ some i
+pub latest-itself : (i : Interval) (c : Cell) → Rising c → Memᴰ i c → latest_departing c i.arrival ≡ Some i
 latest-itself i c u m =
     (first_some (λ j k p q h l. one-departure j k c u p q (omega arith)) (latest-departing i.arrival c) i).1 (m, omega arith, each)
   where
@@ -142,20 +143,20 @@ same-cover (i ∷ c) (j ∷ d) u w f = ap₂ ◌∷◌ e (same-cover c d u.1 w.1
 
 -- There is a departure, at a or later.
 abbrev pub NotBefore : ℕ → Option ℕ → Type 0
-NotBefore a none = ⊥
-NotBefore a (some d) = a ≤ d
+NotBefore a None = ⊥
+NotBefore a (Some d) = a ≤ d
 
 -- There is an arrival, at b or sooner.
 abbrev pub NotAfter : ℕ → Option ℕ → Type 0
-NotAfter b none = ⊥
-NotAfter b (some e) = e ≤ b
+NotAfter b None = ⊥
+NotAfter b (Some e) = e ≤ b
 
 -- [a, t] is covered exactly when the latest departure with arrival at most t is a or later.
 pub latest-iff : (a t : ℕ) (c : Cell) → NotBefore a (latest_departure c t) ↔ Covers (interval a t) c
 unfolding latest_departure
 latest-iff a t c = go (latest-departing t c)
   where
-    go : {o : Option Interval} → FirstOf (ArrivesBy t) DepartsNoEarlier c o → NotBefore a (map (λ i. i.departure) o) ↔ Covers (interval a t) c
+    go : {o : Option Interval} → FirstOf (ArrivesBy t) DepartsNoEarlier c o → NotBefore a (option_map (λ i. i.departure) o) ↔ Covers (interval a t) c
     go (nothing-asked n) = (λ h. absurd h, λ v. let r = covers-find v in n r.0 r.1 r.2.1)
     go (first-asked m p l) = (λ h. member-covers m (h, p), λ v. let r = covers-find v in omega (arith, r.2, l r.0 r.1 r.2.1))
 
@@ -164,7 +165,7 @@ pub earliest-iff : (t b : ℕ) (c : Cell) → NotAfter b (earliest_arrival c t) 
 unfolding earliest_arrival
 earliest-iff t b c = go (earliest-arriving t c)
   where
-    go : {o : Option Interval} → FirstOf (DepartsFrom t) ArrivesNoLater c o → NotAfter b (map (λ i. i.arrival) o) ↔ Covers (interval t b) c
+    go : {o : Option Interval} → FirstOf (DepartsFrom t) ArrivesNoLater c o → NotAfter b (option_map (λ i. i.arrival) o) ↔ Covers (interval t b) c
     go (nothing-asked n) = (λ h. absurd h, λ v. let r = covers-find v in n r.0 r.1 r.2.0)
     go (first-asked m p l) = (λ h. member-covers m (p, h), λ v. let r = covers-find v in omega (arith, r.2, l r.0 r.1 r.2.0))
 

@@ -1,12 +1,13 @@
 -- What entering an interval does to a cell: to its members, to what it covers, to its order.
+use Rattle.std.specs.Prelude.{Option, None, Some}
 use mathlib.Core.Path.{◌≡◌}
 use mathlib.Core.Logic.{◌↔◌, ◌⊎◌, inl, inr, ⊎_elim}
 use mathlib.Core.Bool.{Bool, cond}
-use mathlib.Core.Option.{Option, none, some}
 use mathlib.Core.List.{[], ◌∷◌, Memᴰ}
 use Prim.Native.Nat.{ℕ, ◌≤◌, ◌<◌}
 use native.Mathlib.Omega.{arith}
-use Rattle.journeys.specs.Journey.{Interval, interval, Inside}
+use Rattle.journeys.specs.declared.Interval.{Interval}
+use Rattle.journeys.specs.Journey.{interval, Inside}
 use Rattle.journeys.specs.Cell.{Cell, Before, Rising, without_containing, put_in_order, enter}
 use Rattle.journeys.specs.Adding.{enter_both}
 use Rattle.journeys.proofs.Tests.{Outcome, holds, fails, lt_outcome, inside-outcome}
@@ -186,12 +187,12 @@ enter-rising i c u = go (has_inside-outcome i c)
 
 pub enter_both-rising : (d e : Option ℕ) (c : Cell) → Rising c → Rising (enter_both d e c)
 unfolding enter_both
-enter_both-rising none e c u = u
-enter_both-rising (some d) none c u = u
-enter_both-rising (some d) (some e) c u = enter-rising (interval d e) c u
+enter_both-rising None e c u = u
+enter_both-rising (Some d) None c u = u
+enter_both-rising (Some d) (Some e) c u = enter-rising (interval d e) c u
 
 pub enter_both-iff : (d e : Option ℕ) (p : Interval) (c : Cell) → Covers p (enter_both d e c) ↔ (Covers p c ⊎ (NotBefore p.departure d × NotAfter p.arrival e))
 unfolding enter_both
-enter_both-iff none e p c = (inl, ⊎_elim (λ v. v) (λ h. absurd h.0))
-enter_both-iff (some d) none p c = (inl, ⊎_elim (λ v. v) (λ h. absurd h.1))
-enter_both-iff (some d) (some e) p c = enter-iff (interval d e) p c
+enter_both-iff None e p c = (inl, ⊎_elim (λ v. v) (λ h. absurd h.0))
+enter_both-iff (Some d) None p c = (inl, ⊎_elim (λ v. v) (λ h. absurd h.1))
+enter_both-iff (Some d) (Some e) p c = enter-iff (interval d e) p c

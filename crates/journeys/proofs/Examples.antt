@@ -1,9 +1,10 @@
 -- Worked examples, by computation: the session's cells, P7, P8 and P9 of document 01, and which of two intervals is found.
+use Rattle.std.specs.Prelude.{Some}
 use mathlib.Core.Path.{◌≡◌, refl}
-use mathlib.Core.Option.{some}
 use mathlib.Core.List.{List, [], ◌∷◌, ◌++◌}
 use Prim.Native.Nat.{ℕ, zero, suc}
-use Rattle.journeys.specs.Journey.{Contact, contact, interval}
+use Rattle.journeys.specs.declared.Contact.{Contact}
+use Rattle.journeys.specs.Journey.{contact, interval}
 use Rattle.journeys.specs.Cell.{Cell, later, sooner, latest_departing, earliest_arriving, latest_departure, earliest_arrival, has_inside, without_containing, put_in_order, enter}
 use Rattle.journeys.specs.Adding.{departure_of, arrival_of, enter_both, add, add_all, cells_over}
 
@@ -74,11 +75,11 @@ unfolding cells_over add_all add enter_both departure_of arrival_of enter put_in
 returned = refl
 
 -- Of two intervals that depart at or after a tick the one with the earlier arrival is found.
-earliest-of_two : earliest_arriving (interval 1 2 ∷ interval 2 3 ∷ []) 1 ≡ some (interval 1 2)
+earliest-of_two : earliest_arriving (interval 1 2 ∷ interval 2 3 ∷ []) 1 ≡ Some (interval 1 2)
 unfolding earliest_arriving sooner
 earliest-of_two = refl
 
 -- Of two that arrive by a tick the one with the later departure is found.
-latest-of_two : latest_departing (interval 1 2 ∷ interval 2 3 ∷ []) 3 ≡ some (interval 2 3)
+latest-of_two : latest_departing (interval 1 2 ∷ interval 2 3 ∷ []) 3 ≡ Some (interval 2 3)
 unfolding latest_departing later
 latest-of_two = refl

@@ -1,21 +1,21 @@
 -- The interval that is asked for in a cell: of those with a property, the one that comes first in an order.
+use Rattle.std.specs.Prelude.{Option, None, Some}
 use mathlib.Core.Path.{◌≡◌, refl, sym, subst}
 use mathlib.Core.Logic.{◌↔◌}
 use mathlib.Core.Bool.{Bool, cond}
-use mathlib.Core.Option.{Option, none, some}
 use mathlib.Core.List.Memᴰ
 use mathlib.Core.List.{[], ◌∷◌, Memᴰ}
 use Prim.Native.Nat.{ℕ, ◌≤◌, ◌<◌}
 use native.Mathlib.Omega.{arith}
 use lib.Dec.{leb}
-use Rattle.journeys.specs.Journey.{Interval}
+use Rattle.journeys.specs.declared.Interval.{Interval}
 use Rattle.journeys.specs.Cell.{Cell, later, sooner, latest_departing, earliest_arriving}
 use Rattle.journeys.proofs.Tests.{never, Outcome, holds, fails, le_outcome}
 
 -- Of the cell's intervals that P asks for, the one that is found comes first in the order R; or P asks for none of them.
 pub data FirstOf (P : Interval → Type 0) (R : Interval → Interval → Type 0) (c : Cell) : Option Interval → Type 0 where
-  nothing-asked : ((j : Interval) → Memᴰ j c → ¬ P j) → FirstOf P R c none
-  first-asked : {i : Interval} → Memᴰ i c → P i → ((j : Interval) → Memᴰ j c → P j → R i j) → FirstOf P R c (some i)
+  nothing-asked : ((j : Interval) → Memᴰ j c → ¬ P j) → FirstOf P R c None
+  first-asked : {i : Interval} → Memᴰ i c → P i → ((j : Interval) → Memᴰ j c → P j → R i j) → FirstOf P R c (Some i)
 
 -- ---- how it is found
 
@@ -35,7 +35,7 @@ module _ (P : Interval → Type 0) (R : Interval → Interval → Type 0) where
 
   module _ (itself : (i : Interval) → R i i) (through : (i j k : Interval) → R i j → R j k → R i k) where
     -- In a cell with one more that is asked for it is that one, where no other is.
-    first_alone : {i : Interval} {c : Cell} → P i → FirstOf P R c none → FirstOf P R (i ∷ c) (some i)
+    first_alone : {i : Interval} {c : Cell} → P i → FirstOf P R c None → FirstOf P R (i ∷ c) (Some i)
     first_alone {i} {c} p (nothing-asked n) = first-asked (Memᴰ.head refl) p each
       where
         each : (j : Interval) → Memᴰ j (i ∷ c) → P j → R i j
@@ -43,7 +43,7 @@ module _ (P : Interval → Type 0) (R : Interval → Interval → Type 0) where
         each j (Memᴰ.tail m) q = absurd (n j m q)
 
     -- Else it is the one of the two that comes first.
-    first_either : {i k : Interval} {c : Cell} {b : Bool} → P i → Outcome (R i k) (R k i) b → FirstOf P R c (some k) → FirstOf P R (i ∷ c) (some (cond b i k))
+    first_either : {i k : Interval} {c : Cell} {b : Bool} → P i → Outcome (R i k) (R k i) b → FirstOf P R c (Some k) → FirstOf P R (i ∷ c) (Some (cond b i k))
     first_either {i} {k} {c} p (holds r) (first-asked m q l) = first-asked (Memᴰ.head refl) p each
       where
         each : (j : Interval) → Memᴰ j (i ∷ c) → P j → R i j
@@ -58,8 +58,8 @@ module _ (P : Interval → Type 0) (R : Interval → Interval → Type 0) where
     -- What goes through the cell, passes over what is not asked for and keeps the one that comes first, finds it.
     first_found : (asked : Interval → Bool) → ((i : Interval) → Outcome (P i) (¬ P i) (asked i))
         → (ahead : Interval → Interval → Bool) → ((i k : Interval) → Outcome (R i k) (R k i) (ahead i k))
-        → (keep : Interval → Option Interval → Option Interval) → ((i : Interval) → keep i none ≡ some i) → ((i k : Interval) → keep i (some k) ≡ some (cond (ahead i k) i k))
-        → (find : Cell → Option Interval) → find [] ≡ none → ((i : Interval) (c : Cell) → find (i ∷ c) ≡ cond (asked i) (keep i (find c)) (find c))
+        → (keep : Interval → Option Interval → Option Interval) → ((i : Interval) → keep i None ≡ Some i) → ((i k : Interval) → keep i (Some k) ≡ Some (cond (ahead i k) i k))
+        → (find : Cell → Option Interval) → find [] ≡ None → ((i : Interval) (c : Cell) → find (i ∷ c) ≡ cond (asked i) (keep i (find c)) (find c))
         → (c : Cell) → FirstOf P R c (find c)
     first_found asked is-asked ahead is-ahead keep alone either find e s [] = rw e (nothing-asked (λ j m. absurd (Memᴰ.not-nil m)))
     first_found asked is-asked ahead is-ahead keep alone either find e s (i ∷ c) =
@@ -67,8 +67,8 @@ module _ (P : Interval → Type 0) (R : Interval → Interval → Type 0) where
       where
         go : (o : Option Interval) {b : Bool} → Outcome (P i) (¬ P i) b → FirstOf P R c o → FirstOf P R (i ∷ c) (cond b (keep i o) o)
         go o (fails n) f = first-passed n f
-        go none (holds p) f = rw (alone i) (first_alone p f)
-        go (some k) (holds p) f = rw (either i k) (first_either p (is-ahead i k) f)
+        go None (holds p) f = rw (alone i) (first_alone p f)
+        go (Some k) (holds p) f = rw (either i k) (first_either p (is-ahead i k) f)
 
 -- ---- the two that are asked for
 
@@ -125,19 +125,19 @@ earliest-arriving t =
 module _ {P : Interval → Type 0} {R : Interval → Interval → Type 0} {c : Cell} where
   -- Where no two intervals of the cell come before each other, i is found exactly when it is asked for and comes before all that are.
   pub first_some : ((i j : Interval) → Memᴰ i c → Memᴰ j c → R i j → R j i → i ≡ j) → {o : Option Interval} → FirstOf P R c o
-      → (i : Interval) → (o ≡ some i) ↔ (Memᴰ i c × P i × ((j : Interval) → Memᴰ j c → P j → R i j))
+      → (i : Interval) → (o ≡ Some i) ↔ (Memᴰ i c × P i × ((j : Interval) → Memᴰ j c → P j → R i j))
   first_some one (nothing-asked n) i = (λ e. never cc, λ h. absurd (n i h.0 h.1))
   first_some one (first-asked {i = k} m p l) i = (
     λ e. let q : k ≡ i = cc in subst (λ w. Memᴰ w c × P w × ((j : Interval) → Memᴰ j c → P j → R w j)) q (m, p, l),
-    λ h. (λ z. some (one k i m h.0 (l i h.0 h.1) (h.2 k m p) z)),
+    λ h. (λ z. Some (one k i m h.0 (l i h.0 h.1) (h.2 k m p) z)),
   )
 
   -- What is found stands in the cell.
-  pub first_member : {o : Option Interval} → FirstOf P R c o → {i : Interval} → o ≡ some i → Memᴰ i c
+  pub first_member : {o : Option Interval} → FirstOf P R c o → {i : Interval} → o ≡ Some i → Memᴰ i c
   first_member (nothing-asked n) e = never cc
   first_member (first-asked {i = k} m p l) {i} e = let q : k ≡ i = cc in subst (λ w. Memᴰ w c) q m
 
   -- Nothing is found exactly when nothing is asked for.
-  pub first-none : {o : Option Interval} → FirstOf P R c o → (o ≡ none) ↔ ((j : Interval) → Memᴰ j c → ¬ P j)
+  pub first-none : {o : Option Interval} → FirstOf P R c o → (o ≡ None) ↔ ((j : Interval) → Memᴰ j c → ¬ P j)
   first-none (nothing-asked n) = (λ e. n, λ h. refl)
   first-none (first-asked {i = k} m p l) = (λ e. never cc, λ h. absurd (h k m p))

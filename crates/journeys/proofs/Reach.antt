@@ -7,7 +7,9 @@ use mathlib.Core.List.{[], Memᴰ}
 use Prim.Native.Nat.{ℕ, ◌+◌, ◌≤◌}
 use native.Mathlib.Nat.{le_refl}
 use native.Mathlib.Omega.{arith}
-use Rattle.journeys.specs.Journey.{Contact, contact, Contacts, With, Interval, interval, Inside, JourneyTo, single, onward, Journey}
+use Rattle.journeys.specs.declared.Contact.{Contact}
+use Rattle.journeys.specs.declared.Interval.{Interval}
+use Rattle.journeys.specs.Journey.{contact, Contacts, With, interval, Inside, JourneyTo, single, onward, Journey}
 use Rattle.journeys.specs.Adding.{Cells}
 use Rattle.journeys.proofs.Cover.{Covers, covers-find, covers-wider}
 

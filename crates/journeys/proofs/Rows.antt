@@ -1,14 +1,16 @@
 -- Well-formed cells stay well formed, and have at most τ rows.
+use Rattle.std.specs.Prelude.{Option, None, Some}
 use mathlib.Core.Path.{◌≡◌, refl, ◌∙◌}
 use mathlib.Core.Logic.{◌↔◌, ⊎_elim}
 use mathlib.Core.Bool.{Bool, cond}
-use mathlib.Core.Option.{Option, none, some}
 use mathlib.Core.List.{[], ◌∷◌, Memᴰ}
 use Prim.Native.Nat.{ℕ, ◌+◌, ◌≤◌}
 use native.Mathlib.Nat.{le_refl}
 use native.Mathlib.Omega.{arith}
 use lib.ListN.{length}
-use Rattle.journeys.specs.Journey.{Contact, Interval, interval}
+use Rattle.journeys.specs.declared.Contact.{Contact}
+use Rattle.journeys.specs.declared.Interval.{Interval}
+use Rattle.journeys.specs.Journey.{interval}
 use Rattle.journeys.specs.Cell.{Cell, Rising, Limits, WellFormedCell, latest_departure, earliest_arrival}
 use Rattle.journeys.specs.Adding.{Cells, departure_of, arrival_of, enter_both, add, WellFormed}
 use Rattle.journeys.proofs.Tests.{Outcome, holds, fails, eq_outcome}
@@ -34,20 +36,20 @@ rows-suffice τ δ (i ∷ c) w =
 
 -- The departure, if there is one, is at least 1 and at most t.
 abbrev Departs : ℕ → Option ℕ → Type 0
-Departs t none = Unit {0}
-Departs t (some d) = (1 ≤ d) × (d ≤ t)
+Departs t None = Unit {0}
+Departs t (Some d) = (1 ≤ d) × (d ≤ t)
 
 -- The arrival, if there is one, is at least s and at most τ + δ.
 abbrev Arrives : ℕ → ℕ → Option ℕ → Type 0
-Arrives s m none = Unit {0}
-Arrives s m (some e) = (s ≤ e) × (e ≤ m)
+Arrives s m None = Unit {0}
+Arrives s m (Some e) = (s ≤ e) × (e ≤ m)
 
 latest-departs : (τ δ t : ℕ) (c : Cell) → WellFormedCell τ δ c → Departs t (latest_departure c t)
 latest-departs τ δ t c w = go (latest_departure c t) (λ a. latest-iff a t c)
   where
     go : (o : Option ℕ) → ((a : ℕ) → NotBefore a o ↔ Covers (interval a t) c) → Departs t o
-    go none f = tt
-    go (some d) f =
+    go None f = tt
+    go (Some d) f =
         let r = covers-find ((f d).0 (le_refl d)) in
         let j = r.0 in
         let h : j.departure ≤ d = (f j.departure).1 (member-covers r.1 (le_refl j.departure, r.2.1)) in
@@ -58,8 +60,8 @@ earliest-arrives : (τ δ s : ℕ) (c : Cell) → WellFormedCell τ δ c → Arr
 earliest-arrives τ δ s c w = go (earliest_arrival c s) (λ b. earliest-iff s b c)
   where
     go : (o : Option ℕ) → ((b : ℕ) → NotAfter b o ↔ Covers (interval s b) c) → Arrives s (τ + δ) o
-    go none f = tt
-    go (some e) f =
+    go None f = tt
+    go (Some e) f =
         let r = covers-find ((f e).0 (le_refl e)) in
         let j = r.0 in
         let h : e ≤ j.arrival = (f j.arrival).1 (member-covers r.1 (r.2.0, le_refl j.arrival)) in
@@ -71,7 +73,7 @@ module _ (τ δ : ℕ) (T : Cells) (k : Contact) (h₁ : 1 ≤ k.tick) (h₂ : k
   unfolding departure_of
   departure-departs x w = go (eq_outcome x k.from)
     where
-      go : {P Q : Type 0} {b : Bool} → Outcome P Q b → Departs k.tick (cond b (some k.tick) (latest_departure (T x k.from) k.tick))
+      go : {P Q : Type 0} {b : Bool} → Outcome P Q b → Departs k.tick (cond b (Some k.tick) (latest_departure (T x k.from) k.tick))
       go (holds e) = (h₁, le_refl k.tick)
       go (fails n) = latest-departs τ δ k.tick (T x k.from) w
 
@@ -79,16 +81,16 @@ module _ (τ δ : ℕ) (T : Cells) (k : Contact) (h₁ : 1 ≤ k.tick) (h₂ : k
   unfolding arrival_of
   arrival-arrives y w = go (eq_outcome y k.to)
     where
-      go : {P Q : Type 0} {b : Bool} → Outcome P Q b → Arrives (k.tick + δ) (τ + δ) (cond b (some (k.tick + δ)) (earliest_arrival (T k.to y) (k.tick + δ)))
+      go : {P Q : Type 0} {b : Bool} → Outcome P Q b → Arrives (k.tick + δ) (τ + δ) (cond b (Some (k.tick + δ)) (earliest_arrival (T k.to y) (k.tick + δ)))
       go (holds e) = (le_refl (k.tick + δ), omega arith)
       go (fails n) = earliest-arrives τ δ (k.tick + δ) (T k.to y) w
 
   entered-limits : (d e : Option ℕ) (c : Cell) → Departs k.tick d → Arrives (k.tick + δ) (τ + δ) e → ((i : Interval) → Memᴰ i c → Limits τ δ i)
       → (i : Interval) → Memᴰ i (enter_both d e c) → Limits τ δ i
   unfolding enter_both
-  entered-limits none e c p q f i m = f i m
-  entered-limits (some d) none c p q f i m = f i m
-  entered-limits (some d) (some e) c p q f i m = ⊎_elim new (f i) (enter-members (interval d e) c m)
+  entered-limits None e c p q f i m = f i m
+  entered-limits (Some d) None c p q f i m = f i m
+  entered-limits (Some d) (Some e) c p q f i m = ⊎_elim new (f i) (enter-members (interval d e) c m)
     where
       new : i ≡ interval d e → Limits τ δ i
       new o =

@@ -5,7 +5,9 @@ use mathlib.Core.List.{List, [], Memᴰ}
 use Prim.Native.Nat.{ℕ, ◌+◌, ◌≤◌}
 use native.Mathlib.Omega.{arith}
 use native.Mathlib.Decide.{ℕ_discrete}
-use Rattle.journeys.specs.Journey.{Contact, contact, Contacts, In, With, Union, Same, Apart, Interval, interval, Inside, JourneyTo, single, onward, Minimal}
+use Rattle.journeys.specs.declared.Contact.{Contact}
+use Rattle.journeys.specs.declared.Interval.{Interval}
+use Rattle.journeys.specs.Journey.{contact, Contacts, In, With, Union, Same, Apart, interval, Inside, JourneyTo, single, onward, Minimal}
 use Rattle.journeys.specs.Cell.{Cell}
 use Rattle.journeys.specs.Adding.{Cells, add, add_all, cells_over, ListsMinimal, CellsOf}
 use Rattle.journeys.specs.Theorems.{Closure, ContactsStand, EqualCells, Unchanged, InsideStored, RowsSuffice, SameMembers}

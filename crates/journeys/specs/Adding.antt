@@ -1,8 +1,9 @@
 -- The add rule over all pairs (document 01, "Adding a contact"), and what the cells of a set of contacts are.
-use Rattle.std.specs.Prelude.{◌≡◌, ◌↔◌, ◌≢◌, cond, ℕ, ◌+◌, eqb}
-use mathlib.Core.Option.{Option, none, some}
+use Rattle.std.specs.Prelude.{◌≡◌, ◌↔◌, ◌≢◌, cond, ℕ, ◌+◌, eqb, Option, None, Some}
 use mathlib.Core.List.{List, [], ◌∷◌, Memᴰ}
-use Rattle.journeys.specs.Journey.{Contact, Contacts, Interval, interval, Minimal}
+use Rattle.journeys.specs.declared.Contact.{Contact}
+use Rattle.journeys.specs.declared.Interval.{Interval}
+use Rattle.journeys.specs.Journey.{Contacts, interval, Minimal}
 use Rattle.journeys.specs.Cell.{Cell, Rising, WellFormedCell, latest_departure, earliest_arrival, enter}
 
 -- A cell for each ordered pair of animals.
@@ -11,17 +12,17 @@ Cells = ℕ → ℕ → Cell
 
 -- d(x): t for u itself; for another animal the latest departure from it that has reached u by t, where there is one.
 unfoldable pub departure_of : Cells → Contact → ℕ → Option ℕ
-departure_of T k x = cond (eqb x k.from) (some k.tick) (latest_departure (T x k.from) k.tick)
+departure_of T k x = cond (eqb x k.from) (Some k.tick) (latest_departure (T x k.from) k.tick)
 
 -- e(y): t + δ for v itself; for another animal the earliest arrival at it that leaves v at t + δ or later, where there is one.
 unfoldable pub arrival_of : ℕ → Cells → Contact → ℕ → Option ℕ
-arrival_of δ T k y = cond (eqb y k.to) (some (k.tick + δ)) (earliest_arrival (T k.to y) (k.tick + δ))
+arrival_of δ T k y = cond (eqb y k.to) (Some (k.tick + δ)) (earliest_arrival (T k.to y) (k.tick + δ))
 
 -- Where both ends exist, their interval enters the cell.
 unfoldable pub enter_both : Option ℕ → Option ℕ → Cell → Cell
-enter_both none e c = c
-enter_both (some d) none c = c
-enter_both (some d) (some e) c = enter (interval d e) c
+enter_both None e c = c
+enter_both (Some d) None c = c
+enter_both (Some d) (Some e) c = enter (interval d e) c
 
 -- The cells after one contact more, from the cells before it: for every x other than y, [d(x), e(y)] enters cell (x, y).
 unfoldable pub add : ℕ → Cells → Contact → Cells

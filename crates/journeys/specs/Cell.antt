@@ -1,8 +1,7 @@
 -- Cells and what is asked of them (document 01, "Words of the table" and "Adding a contact").
-use Rattle.std.specs.Prelude.{Bool, false, cond, ◌&&◌, ◌||◌, ℕ, ◌+◌, ◌≤◌, ◌<◌, leb, ltb}
-use mathlib.Core.Option.{Option, none, some, map}
+use Rattle.std.specs.Prelude.{Bool, false, cond, ◌&&◌, ◌||◌, ℕ, ◌+◌, ◌≤◌, ◌<◌, leb, ltb, Option, None, Some, option_map}
 use mathlib.Core.List.{List, [], ◌∷◌, Memᴰ}
-use Rattle.journeys.specs.Journey.{Interval}
+use Rattle.journeys.specs.declared.Interval.{Interval}
 
 -- The intervals of an ordered pair, in the order of the rows.
 abbrev pub Cell : Type 0
@@ -32,31 +31,31 @@ pub record WellFormedCell (τ δ : ℕ) (c : Cell) : Type 0 where
 
 -- Of two intervals the one that departs later; the second may be missing.
 unfoldable pub later : Interval → Option Interval → Option Interval
-later i none = some i
-later i (some j) = some (cond (leb j.departure i.departure) i j)
+later i None = Some i
+later i (Some j) = Some (cond (leb j.departure i.departure) i j)
 
 -- Of two intervals the one that arrives sooner; the second may be missing.
 unfoldable pub sooner : Interval → Option Interval → Option Interval
-sooner i none = some i
-sooner i (some j) = some (cond (leb i.arrival j.arrival) i j)
+sooner i None = Some i
+sooner i (Some j) = Some (cond (leb i.arrival j.arrival) i j)
 
 -- The interval of the cell with the latest departure, of those with arrival at most t, if any.
 unfoldable pub latest_departing : Cell → ℕ → Option Interval
-latest_departing [] t = none
+latest_departing [] t = None
 latest_departing (i ∷ c) t = cond (leb i.arrival t) (later i (latest_departing c t)) (latest_departing c t)
 
 -- The interval of the cell with the earliest arrival, of those with departure at least t, if any.
 unfoldable pub earliest_arriving : Cell → ℕ → Option Interval
-earliest_arriving [] t = none
+earliest_arriving [] t = None
 earliest_arriving (i ∷ c) t = cond (leb t i.departure) (sooner i (earliest_arriving c t)) (earliest_arriving c t)
 
 -- The latest departure in the cell with arrival at most t, if any.
 unfoldable pub latest_departure : Cell → ℕ → Option ℕ
-latest_departure c t = map (λ i. i.departure) (latest_departing c t)
+latest_departure c t = option_map (λ i. i.departure) (latest_departing c t)
 
 -- The earliest arrival in the cell with departure at least t, if any.
 unfoldable pub earliest_arrival : Cell → ℕ → Option ℕ
-earliest_arrival c t = map (λ i. i.arrival) (earliest_arriving c t)
+earliest_arrival c t = option_map (λ i. i.arrival) (earliest_arriving c t)
 
 -- The interval j lies inside i, or equals it: the inner one stands first.
 abbrev pub inside : Interval → Interval → Bool

@@ -1,13 +1,10 @@
 -- Contacts, journeys and minimal intervals (document 01, "Animals, ticks, carry time").
 use Rattle.std.specs.Prelude.{◌≡◌, ◌↔◌, ◌⊎◌, ◌≢◌, ℕ, ◌+◌, ◌≤◌}
 use mathlib.Core.List.{List, [], ◌∷◌, Memᴰ}
+use Rattle.journeys.specs.declared.Contact.{Contact}
+use Rattle.journeys.specs.declared.Interval.{Interval}
 
--- A contact (u, v, t): what it carries departs from u at t and is with v from t + δ on, δ being the carry time.
-pub record Contact : Type 0 where
-  pub from : ℕ
-  pub to : ℕ
-  pub tick : ℕ
-
+-- The contact (u, v, t).
 abbrev pub contact : ℕ → ℕ → ℕ → Contact
 contact u v t = record { from = u; to = v; tick = t }
 
@@ -39,11 +36,7 @@ Same S R = (k : Contact) → S k ↔ R k
 abbrev pub Apart : Contacts → Type 0
 Apart S = (k : Contact) → S k → k.from ≢ k.to
 
--- An interval [departure, arrival].
-pub record Interval : Type 0 where
-  pub departure : ℕ
-  pub arrival : ℕ
-
+-- The interval [a, b].
 abbrev pub interval : ℕ → ℕ → Interval
 interval a b = record { departure = a; arrival = b }
 

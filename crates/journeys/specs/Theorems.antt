@@ -1,7 +1,9 @@
 -- The theorems on which the engine stands, each one declaration. Their proofs are in proofs/.
 use Rattle.std.specs.Prelude.{◌≡◌, ◌↔◌, ◌⊎◌, ◌≢◌, ℕ, ◌+◌, ◌≤◌, length}
 use mathlib.Core.List.{List, Memᴰ}
-use Rattle.journeys.specs.Journey.{Contact, contact, Contacts, In, With, Same, Apart, Interval, interval, Inside, Journey, Minimal}
+use Rattle.journeys.specs.declared.Contact.{Contact}
+use Rattle.journeys.specs.declared.Interval.{Interval}
+use Rattle.journeys.specs.Journey.{contact, Contacts, In, With, Same, Apart, interval, Inside, Journey, Minimal}
 use Rattle.journeys.specs.Cell.{Cell, Rising, WellFormedCell}
 use Rattle.journeys.specs.Adding.{Cells, add, add_all, cells_over, CellsOf, WellFormed}
 

@@ -1,13 +1,14 @@
 -- Loading: the table built over the contacts of a log is the one that opening and adding them leave.
+use Rattle.std.specs.Prelude.{None}
 use mathlib.Core.Path.{◌≡◌, sym, ap, ◌∙◌, subst}
-use mathlib.Core.Option.{none}
 use mathlib.Core.List.{List, [], map, Memᴰ}
 use Prim.Native.Nat.{ℕ, ◌-◌, ◌≤◌, ◌<◌}
 use native.Mathlib.Omega.{arith}
 use lib.ListN.{length, get_or, take, drop, replicate}
 use lib.Dec.{leb, eqb}
 use borrow.Author.Tests.{eqb-true, leb-true}
-use Rattle.journeys.specs.Journey.{Contact, In}
+use Rattle.journeys.specs.declared.Contact.{Contact}
+use Rattle.journeys.specs.Journey.{In}
 use Rattle.words.specs.Layout.{capacity, get, is_of}
 use Rattle.words.specs.Words.{opening_layout, contact_of, end_layout, logged_field, animals_of, ticks_of, carry_of}
 use Rattle.words.proofs.Fields.{get-bound}
@@ -30,11 +31,11 @@ use Rattle.building.proofs.MarkedTables.{opened-table}
 use Rattle.log_checks.proofs.Logged.{between-lent}
 
 -- A log that no check refuses has two words or more.
-pub log-long : (L T : List ℕ) → read_refusal L T ≡ none → 2 ≤ length L
+pub log-long : (L T : List ℕ) → read_refusal L T ≡ None → 2 ≤ length L
 log-long L T h = leb-true 2 (length L) (and_left (leb 2 (length L)) (is_of opening_layout (get_or L 0 0)) ((read-iff L T).0 h).log)
 
 -- What the first word says, with the three numbers as they were taken from it.
-module _ (L T : List ℕ) (h : read_refusal L T ≡ none) (n τ δ : ℕ) (p : n ≡ animals L) (q : τ ≡ ticks L) (r : δ ≡ carry L) where
+module _ (L T : List ℕ) (h : read_refusal L T ≡ None) (n τ δ : ℕ) (p : n ≡ animals L) (q : τ ≡ ticks L) (r : δ ≡ carry L) where
   pub first-sizes : Sizes n τ δ
   first-sizes = rw (p, q, r) (table-sizes L)
 
@@ -44,7 +45,7 @@ module _ (L T : List ℕ) (h : read_refusal L T ≡ none) (n τ δ : ℕ) (p : n
   pub first-words : (U : List ℕ) → U ≡ table_words n τ δ no_intervals → U ≡ table_words (animals L) (ticks L) (carry L) no_intervals
   first-words U e = rw (p, q, r) at e
 
-module _ (L T : List ℕ) (h : read_refusal L T ≡ none) (end : ℕ) (s : end ≡ length L - 1) where
+module _ (L T : List ℕ) (h : read_refusal L T ≡ None) (end : ℕ) (s : end ≡ length L - 1) where
   -- The contacts of the words that are lent are those of the log.
   contacts-are : map contact_of (take (end - 1) (drop 1 L)) ≡ logged_contacts L
   unfolding logged_contacts
@@ -87,7 +88,7 @@ module _ (L T : List ℕ) (h : read_refusal L T ≡ none) (end : ℕ) (s : end �
         z : Sizes (animals L) (ticks L) (carry L)
         z = table-sizes L
 
-        opens : open_refusal (animals L) (ticks L) (carry L) T ≡ none
+        opens : open_refusal (animals L) (ticks L) (carry L) T ≡ None
         opens = (open_iff (animals L) (ticks L) (carry L) T).1 (z, ((read-iff L T).0 h).fits)
 
         a : animals V₁ ≡ animals L

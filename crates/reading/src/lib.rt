@@ -2,7 +2,6 @@
 #![tactic(auto)]
 
 ghost use Rattle.std.specs.Prelude.{◌≡◌};
-ghost use mathlib.Core.Option.{none};
 ghost use Rattle.rules.specs.Layout.{animals, ticks, carry};
 ghost use Rattle.rules.specs.CallLists.{table_with};
 ghost use Rattle.rules.specs.Reading.{logged_contacts, different, read_refusal};
@@ -11,7 +10,7 @@ use tables::Opening;
 
 // Opens the table and adds all contacts of the log, which no check refuses; how many different ones they are.
 pub fn load(log: &[u32], table: &mut [u32]) -> u32
-    requires { read_refusal log.now table.old ≡ none }
+    requires { read_refusal log.now table.old ≡ None }
     ensures value { result ≡ different (logged_contacts log.now) }
     ensures table_after { table.new ≡ table_with (animals log.now) (ticks log.now) (carry log.now) table.old (logged_contacts log.now) }
 {

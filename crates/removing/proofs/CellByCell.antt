@@ -1,33 +1,32 @@
--- The contacts of the rows of a cell, and of all cells, marked but for one.
+-- The contact of a row, and those of all cells, marked but for one.
 use mathlib.Core.Path.{◌≡◌, refl, sym, ap, ◌∙◌, subst}
 use mathlib.Core.Logic.{◌↔◌, ◌≢◌, ⊎_elim}
 use mathlib.Core.Bool.{Bool, cond, ◌&&◌}
 use mathlib.Core.List.Memᴰ
-use mathlib.Core.List.{List, [], ◌∷◌, ◌++◌, Memᴰ}
-use Prim.Native.Nat.{ℕ, ◌+◌, ◌-◌, ◌*◌, ◌≤◌, ◌<◌}
+use mathlib.Core.List.{List, [], ◌∷◌, Memᴰ}
+use Prim.Native.Nat.{ℕ, ◌+◌, ◌-◌, ◌*◌, ◌≤◌}
 use native.Mathlib.Omega.{arith}
-use lib.ListN.{get_or, take, drop}
 use borrow.Author.Tests.{eq-eqb, ne_eqb}
-use Rattle.journeys.specs.Journey.{Contact, contact, In, Without, Same}
+use Rattle.journeys.specs.declared.Contact.{Contact}
+use Rattle.journeys.specs.Journey.{contact, In, Without, Same}
 use Rattle.journeys.proofs.Tests.{Outcome, holds, fails, eq_outcome}
 use Rattle.journeys.proofs.Cover.{departure-path}
 use Rattle.words.specs.Layout.{get}
 use Rattle.words.specs.Words.{departure_field, arrival_field, interval_of}
-use Rattle.rules.specs.Layout.{cell_of}
+use Rattle.rules.specs.Layout.{animals, ticks, carry, cell_of}
+use Rattle.rules.specs.Checks.{ValidTable}
 use Rattle.rules.specs.Adding.{Legal}
+use Rattle.rules.specs.Removing.{remaining}
+use Rattle.rules.proofs.Held.{held-legal}
+use Rattle.rules.proofs.Removing.{remaining-iff}
 use Rattle.tables.specs.declared.Opening.{Opening}
-use Rattle.grid.specs.declared.CellPlace.{CellPlace}
-use Rattle.grid.specs.Steps.{first_cell, next_cell}
-use Rattle.grid.proofs.Steps.{Stepped, stepped_start, stepped-turn, AtCell}
-use Rattle.cells.specs.Stored.{rows_in, Stored}
-use Rattle.cells.proofs.Lent.{count_fits}
-use Rattle.cells.proofs.RowLoop.{RowLoop, rows-begin, rows-turn}
+use Rattle.cells.specs.Stored.{Stored}
 use Rattle.building.specs.Stage.{CanMarkContact, MarksContact}
-use Rattle.logs.specs.Ordered.{cell_contacts, grid_contacts}
-use Rattle.logs.proofs.Passes.{contacts_of, no-contact, one-contact, contacts_left, all_left, none_left, next-left, cells_left, cells-all, cells-next, cells-none}
-use Rattle.logs.proofs.TableContacts.{contact-path, cell-iff}
-use Rattle.removing.specs.Remaining.{CanMarkAll, MarksAll, tick_left_out}
-use Rattle.removing.proofs.MarkedSets.{none-marked, one-marked, same-marked, MarkedSoFar, so_far_start, so_far_next, so_far_turn, so_far_end}
+use Rattle.logs.specs.Ordered.{cell_contacts, table_contacts}
+use Rattle.logs.proofs.Passes.{contacts_of, no-contact, one-contact}
+use Rattle.logs.proofs.TableContacts.{contact-path, cell-iff, table-iff}
+use Rattle.removing.specs.Remaining.{table_opening, MarkedFor, MarkedBesides, CanMarkAll, MarksAll, tick_left_out}
+use Rattle.removing.proofs.MarkedSets.{none-marked, one-marked, same-marked}
 
 -- ---- one row
 
@@ -77,36 +76,6 @@ module _ (o : Opening) (u v w d : ℕ) (p : d ≡ get departure_field w) where
         row-marked n =
             one-marked (λ c. (λ m. row-only c m.0, λ e. (subst (λ (k : Contact). Memᴰ k these) (sym e) here, λ f. n (ap (λ (k : Contact). k.tick) (sym e ∙ f)))))
 
--- ---- the rows of a cell
-
--- The contacts of the rows before i of cell (u, v), whose rows in use end at e, are marked, but for the one at tick `except`.
-pub record MarkedRows (o : Opening) (u v except : ℕ) (cell heads₀ body₀ heads body : List ℕ) (e i : ℕ) : Type 0 where
-  pub loop : RowLoop cell e i
-  pub marked : MarkedSoFar o (contact u v except) (cell_contacts o.carry u v (cell_of cell)) (contacts_left o.carry u v cell e i) heads₀ body₀ heads body
-
--- No row is passed yet.
-pub rows_start : {o : Opening} {u v except : ℕ} {heads body : List ℕ} (cell : List ℕ) (k : ℕ) → k ≡ rows_in cell → Stored cell
-    → MarkedRows o u v except cell heads body heads body (k + 1) 1
-rows_start {o} {u} {v} cell k e h = let f = count_fits cell h in record { loop = rows-begin cell k e f; marked = so_far_start (all_left o.carry u v cell k e f) }
-
-module _ {o : Opening} {u v except : ℕ} {cell heads₀ body₀ heads body : List ℕ} {e i : ℕ} (w : MarkedRows o u v except cell heads₀ body₀ heads body e i) where
-  module _ (h : i < e) where
-    left : contacts_left o.carry u v cell e i ≡ contacts_of o.carry u v (get_or cell i 0) ++ contacts_left o.carry u v cell e (i + 1)
-    left = next-left o.carry u v cell w.loop h
-
-    -- The contact of the next row can be marked.
-    pub row_next : CanMarkAll o (In (cell_contacts o.carry u v (cell_of cell))) heads₀ body₀ → CanMarkAll o (In (contacts_of o.carry u v (get_or cell i 0))) heads body
-    row_next = so_far_next w.marked _ _ left
-
-    -- It is marked, where it is not left out.
-    pub row-turn : {heads₁ body₁ : List ℕ} → MarksAll o (Without (In (contacts_of o.carry u v (get_or cell i 0))) (contact u v except)) heads body heads₁ body₁
-        → MarkedRows o u v except cell heads₀ body₀ heads₁ body₁ e (i + 1)
-    row-turn p = record { loop = rows-turn w.loop h; marked = so_far_turn w.marked _ _ left p }
-
-  -- All rows are passed.
-  pub rows-marked : e ≤ i → MarksAll o (Without (In (cell_contacts o.carry u v (cell_of cell))) (contact u v except)) heads₀ body₀ heads body
-  rows-marked h = so_far_end w.marked (none_left o.carry u v cell w.loop h)
-
 -- ---- the tick left out
 
 module _ (k : Contact) (x y : ℕ) {r : ℕ} where
@@ -135,57 +104,51 @@ left_out k x y c p q h = go (eq_outcome x k.from) (eq_outcome y k.to)
     go (holds e) (fails n) = (λ s. let t = ap (λ (i : Contact). i.tick) s in absurd (omega arith), λ s. absurd (n (sym q ∙ ap (λ (i : Contact). i.to) s)))
     go (fails n) b = (λ s. let t = ap (λ (i : Contact). i.tick) s in absurd (omega arith), λ s. absurd (n (sym p ∙ ap (λ (i : Contact). i.from) s)))
 
+-- ---- one cell
+
+-- A cell (u, v) of stored words.
+module _ (o : Opening) (k : Contact) (u v : ℕ) (cell : List ℕ) (h : Stored cell) where
+  -- Its contacts.
+  abbrev those : List Contact
+  those = cell_contacts o.carry u v (cell_of cell)
+
+  -- Where the cell's tick is left out, k is.
+  same_left : Same (Without (In those) (contact u v (tick_left_out k u v))) (Without (In those) k)
+  same_left j = (λ m. (m.0, λ e. m.1 ((iff m.0).1 e)), λ m. (m.0, λ e. m.1 ((iff m.0).0 e)))
+    where
+      iff : Memᴰ j those → (j ≡ contact u v (tick_left_out k u v)) ↔ (j ≡ k)
+      iff m = let i = (cell-iff o.carry u v (cell_of cell) j).0 m in left_out k u v j i.0 i.1 (h.departs _ i.2)
+
+  -- Marked but for the one at that tick, they are marked but for k.
+  pub cell-marked : {except : ℕ} → except ≡ tick_left_out k u v → {heads body heads₁ body₁ : List ℕ}
+      → MarksAll o (Without (In those) (contact u v except)) heads body heads₁ body₁ → MarksAll o (Without (In those) k) heads body heads₁ body₁
+  cell-marked f {heads} {body} {heads₁} {body₁} p = same-marked same_left (subst (λ (i : ℕ). MarksAll o (Without (In those) (contact u v i)) heads body heads₁ body₁) f p)
+
 -- ---- all cells
 
--- The contacts of some of the cells are marked, but for k, and c is the next cell.
-pub record MarkedCells (o : Opening) (k : Contact) (cells heads₀ body₀ heads body : List ℕ) (c : CellPlace) : Type 0 where
-  pub passed : ℕ
-  pub stepped : Stepped o.animals (o.ticks + 1) c passed
-  pub marked : MarkedSoFar o k (grid_contacts o.carry o.animals (o.ticks + 1) cells) (cells_left o.carry o.animals (o.ticks + 1) cells c (o.animals * o.animals - passed)) heads₀ body₀ heads body
+-- The opening that was read off the table T is the one that its opening word says.
+pub opening-is : (T : List ℕ) {o : Opening} → (o.animals ≡ animals T) × (o.ticks ≡ ticks T) × (o.carry ≡ carry T) → o ≡ table_opening T
+opening-is T e = λ i. record { animals = e.0 i; ticks = e.1 i; carry = e.2 i }
 
--- No cell is passed yet.
-pub cells-start : {o : Opening} {k : Contact} {heads body : List ℕ} (cells : List ℕ) {c : CellPlace} → c ≡ first_cell → MarkedCells o k cells heads body heads body c
-cells-start {o} cells e =
-    record { passed = 0; stepped = stepped_start o.animals (o.ticks + 1) e; marked = so_far_start (cells-all o.carry o.animals (o.ticks + 1) cells e) }
+-- A valid table T with the opening o that was read off it, where no contact is marked yet.
+module _ (T : List ℕ) (p : ValidTable T) {o : Opening} (e : (o.animals ≡ animals T) × (o.ticks ≡ ticks T) × (o.carry ≡ carry T)) {heads body : List ℕ} (f : MarkedFor (table_opening T) [] heads body) where
+  -- Its contacts can be marked.
+  pub table-can_mark : CanMarkAll o (In (table_contacts T)) heads body
+  table-can_mark =
+      record {
+        others = [];
+        marked = rw (opening-is T e) f;
+        legal = λ k m. rw (e.0, e.1) (held-legal T p k ((table-iff T p k).0 m));
+      }
 
-module _ {o : Opening} {k : Contact} {cells heads₀ body₀ heads body : List ℕ} {c : CellPlace} (w : MarkedCells o k cells heads₀ body₀ heads body c) where
-  -- The numbers of the opening.
-  abbrev n : ℕ
-  n = o.animals
-
-  abbrev s : ℕ
-  s = o.ticks + 1
-
-  module _ (h : AtCell Stored n s cells c w.passed) where
-    -- The rows of the next cell, as it is lent, and its contacts.
-    abbrev lent : List ℕ
-    lent = take (c.at + s - c.at) (drop c.at cells)
-
-    abbrev those : List Contact
-    those = cell_contacts o.carry c.from c.to (cell_of lent)
-
-    -- They can be marked.
-    pub cell-next : CanMarkAll o (In (grid_contacts o.carry n s cells)) heads₀ body₀ → CanMarkAll o (In those) heads body
-    cell-next = so_far_next w.marked _ _ (cells-next o.carry n s cells h refl)
-
-    -- Where the cell's tick is left out, k is.
-    same_left : Same (Without (In those) (contact c.from c.to (tick_left_out k c.from c.to))) (Without (In those) k)
-    same_left j = (λ m. (m.0, λ e. m.1 ((iff m.0).1 e)), λ m. (m.0, λ e. m.1 ((iff m.0).0 e)))
-      where
-        iff : Memᴰ j those → (j ≡ contact c.from c.to (tick_left_out k c.from c.to)) ↔ (j ≡ k)
-        iff m = let i = (cell-iff o.carry c.from c.to (cell_of lent) j).0 m in left_out k c.from c.to j i.0 i.1 (h.property.departs _ i.2)
-
-    -- They are marked, but for k.
-    pub cell-turn : {except : ℕ} → except ≡ tick_left_out k c.from c.to → {d : CellPlace} → d ≡ next_cell n s c → {heads₁ body₁ : List ℕ}
-        → MarksAll o (Without (In those) (contact c.from c.to except)) heads body heads₁ body₁ → MarkedCells o k cells heads₀ body₀ heads₁ body₁ d
-    cell-turn f e {heads₁} {body₁} p =
-        let z = subst (λ (i : ℕ). MarksAll o (Without (In those) (contact c.from c.to i)) heads body heads₁ body₁) f p in
-        record {
-          passed = w.passed + 1;
-          stepped = stepped-turn w.stepped e;
-          marked = so_far_turn w.marked _ _ (cells-next o.carry n s cells h e) (same-marked same_left z);
-        }
-
-  -- All cells are passed.
-  pub cells-marked : n * n ≤ w.passed → MarksAll o (Without (In (grid_contacts o.carry n s cells)) k) heads₀ body₀ heads body
-  cells-marked h = so_far_end w.marked (cells-none o.carry n s cells c w.passed h)
+  -- Marked but for k, they are those that remain.
+  pub table-marked_without : {k : Contact} {heads₁ body₁ : List ℕ} → MarksAll o (Without (In (table_contacts T)) k) heads body heads₁ body₁
+      → MarkedBesides (table_opening T) [] (In (remaining T k)) heads₁ body₁
+  table-marked_without {k} {heads₁} {body₁} m =
+      subst (λ (a : Opening). MarksAll a (In (remaining T k)) heads body heads₁ body₁) (opening-is T e) (same-marked left m) [] f
+    where
+      left : Same (Without (In (table_contacts T)) k) (In (remaining T k))
+      left c = (
+        λ q. (remaining-iff T k c).1 ((table-iff T p c).0 q.0, q.1),
+        λ q. let z = (remaining-iff T k c).0 q in ((table-iff T p c).1 z.0, z.1),
+      )

@@ -5,7 +5,8 @@ use mathlib.Core.List.Memᴰ
 use mathlib.Core.List.{List, [], ◌∷◌, ◌++◌, append-nil, append_assoc, Memᴰ}
 use Prim.Native.Nat.{ℕ, ◌+◌}
 use lib.ListN.{length}
-use Rattle.journeys.specs.Journey.{Contact, Contacts, In, Without, Union, Same}
+use Rattle.journeys.specs.declared.Contact.{Contact}
+use Rattle.journeys.specs.Journey.{Contacts, In, Without, Union, Same}
 use Rattle.tables.specs.declared.Opening.{Opening}
 use Rattle.building.specs.Stage.{MarksContact}
 use Rattle.building.proofs.Plans.{member-snoc}

@@ -1,10 +1,16 @@
 -- Contacts marked besides others in a table just opened, and the tick at which a cell has one contact.
 use Rattle.std.specs.Prelude.{ℕ, ◌+◌, ◌↔◌, ◌⊎◌, cond, ◌&&◌, eqb}
 use mathlib.Core.List.{List, Memᴰ}
-use Rattle.journeys.specs.Journey.{Contact, Contacts}
+use Rattle.journeys.specs.declared.Contact.{Contact}
+use Rattle.journeys.specs.Journey.{Contacts}
+use Rattle.rules.specs.Layout.{animals, ticks, carry}
 use Rattle.rules.specs.Adding.{Legal}
 use Rattle.tables.specs.declared.Opening.{Opening}
 use Rattle.building.specs.Stage.{ContactsMarked}
+
+-- What the opening word of the table T says.
+abbrev pub table_opening : List ℕ → Opening
+table_opening T = record { animals = animals T; ticks = ticks T; carry = carry T }
 
 -- The contacts ks are marked in the words behind the opening word of a table of this opening.
 abbrev pub MarkedFor : Opening → List Contact → List ℕ → List ℕ → Type 0

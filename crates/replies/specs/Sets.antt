@@ -1,10 +1,10 @@
--- What the question for the animals reached leaves in the words lent for its set.
-use Rattle.std.specs.Prelude.{ℕ, List}
-use Rattle.rules.specs.declared.SetAnswer.{SetAnswer}
-use Rattle.rules.specs.declared.SetAnswer.TheVariants.{Found, Refused}
+-- What is written of a set.
+use Rattle.std.specs.Prelude.{List, ℕ, Result, Ok, Err}
+use Rattle.rules.specs.declared.Refusal.{Refusal}
+use Rattle.rules.specs.declared.AnimalSet.{AnimalSet}
 use Rattle.rules.specs.Questions.{set_over}
 
--- A set that was found stands at the front; on a refusal all words keep theirs.
-abbrev pub set_leaves : SetAnswer → List ℕ → List ℕ → List ℕ
-set_leaves Found ws B = set_over ws B
-set_leaves (Refused r) ws B = B
+-- The words lent for a set afterwards: its eight words at their front where it was found.
+abbrev pub set_leaves : Result AnimalSet Refusal → List ℕ → List ℕ
+set_leaves (Ok s) B = set_over s.words B
+set_leaves (Err r) B = B

@@ -1,20 +1,19 @@
 -- The questions are answered as demand 2 asks, on any fresh table.
+use Rattle.std.specs.Prelude.{Option, None, Some, Ok}
 use mathlib.Core.Path.{◌≡◌, refl, sym, ap, ap₂, ◌∙◌, subst}
 use mathlib.Core.Logic.{◌↔◌, ◌≢◌}
 use mathlib.Core.Bool.{Bool, true, false, cond, not, ◌&&◌, ◌||◌}
-use mathlib.Core.Option.{Option, none, some}
 use mathlib.Core.List.{List, [], ◌∷◌, Memᴰ}
 use Prim.Native.Nat.{ℕ, zero, suc, ◌+◌, ◌*◌, ◌/◌, ◌%◌, ◌^◌, ◌≤◌, ◌<◌}
 use native.Mathlib.Omega.{arith}
 use lib.ListN.{length, get_or, replicate, length-append}
 use lib.Dec.{eqb}
-use Rattle.journeys.specs.Journey.{Contacts, Interval, Inside, Journey, Minimal}
+use Rattle.journeys.specs.declared.Interval.{Interval}
+use Rattle.journeys.specs.Journey.{Contacts, Inside, Journey, Minimal}
 use Rattle.journeys.proofs.Tests.{untrue, Outcome, holds, fails, outcome-iff, eq_outcome, lt_outcome}
 use Rattle.journeys.proofs.Cover.{Covers, covers-find, member-covers, has_inside-outcome}
 use Rattle.journeys.proofs.Theorems.{inside-stored}
 use Rattle.rules.specs.Limits.{max_animals}
-use Rattle.rules.specs.declared.AskAnswer.TheVariants.{Yes, No}
-use Rattle.rules.specs.declared.SetAnswer.TheVariants.{Found}
 use Rattle.rules.specs.declared.Refusal.{Refusal}
 use Rattle.rules.specs.Answers.{unless}
 use Rattle.rules.specs.Folds.{flat, all_below, count_below}
@@ -42,11 +41,11 @@ reaches-stored T u v first last =
     (λ h. covers-find (e.0 h), λ r. e.1 (member-covers r.1 r.2))
 
 module _ {n τ δ : ℕ} {T : List ℕ} (g : ValidOf n τ δ T) (u v first last : ℕ) (p : IsPair n u v) (w : IsWindow τ first last) {P : Type 0} (c : (reaches T u v first last ≡ true) ↔ P) where
-  pub reach-yes_iff : (reach_answer T u v first last ≡ Yes) ↔ P
+  pub reach-yes_iff : (reach_answer T u v first last ≡ Ok true) ↔ P
   unfolding reach_answer
   reach-yes_iff = rw (reach-asked g u v first last p w) (yes_iff (reaches T u v first last) c)
 
-  pub reach-no_iff : (reach_answer T u v first last ≡ No) ↔ (¬ P)
+  pub reach-no_iff : (reach_answer T u v first last ≡ Ok false) ↔ (¬ P)
   unfolding reach_answer
   reach-no_iff = rw (reach-asked g u v first last p w) (no_iff (reaches T u v first last) c)
 
@@ -85,10 +84,10 @@ module _ {n τ δ : ℕ} {S : Contacts} {T : List ℕ} (f : Fresh n τ δ S T) w
       let t = inside-stored δ S f.cells f.minimal u v first (last + δ) p.apart in
       (λ h. fits_iff.1 (t.1 (c.0 h)), λ h. c.1 (t.0 (fits_iff.0 h)))
 
-  pub reach_yes : (u v first last : ℕ) → IsPair n u v → IsWindow τ first last → (reach_answer T u v first last ≡ Yes) ↔ Fits S δ u v first last
+  pub reach_yes : (u v first last : ℕ) → IsPair n u v → IsWindow τ first last → (reach_answer T u v first last ≡ Ok true) ↔ Fits S δ u v first last
   reach_yes u v first last p w = reach-yes_iff (valid-fresh f) u v first last p w (reaches-iff u v p first last)
 
-  pub reach_no : (u v first last : ℕ) → IsPair n u v → IsWindow τ first last → (reach_answer T u v first last ≡ No) ↔ (¬ Fits S δ u v first last)
+  pub reach_no : (u v first last : ℕ) → IsPair n u v → IsWindow τ first last → (reach_answer T u v first last ≡ Ok false) ↔ (¬ Fits S δ u v first last)
   reach_no u v first last p w = reach-no_iff (valid-fresh f) u v first last p w (reaches-iff u v p first last)
 
   -- ---- connected
@@ -112,11 +111,11 @@ module _ {n τ δ : ℕ} {S : Contacts} {T : List ℕ} (f : Fresh n τ δ S T) w
     )
 
     module _ (w : IsWindow τ first last) where
-      pub connected_yes : (connected_answer T first last ≡ Yes) ↔ AllFit S δ n first last
+      pub connected_yes : (connected_answer T first last ≡ Ok true) ↔ AllFit S δ n first last
       unfolding connected_answer
       connected_yes = rw (connected-asked (valid-fresh f) first last w) (yes_iff (connects T first last) connects-iff)
 
-      pub connected_no : (connected_answer T first last ≡ No) ↔ (¬ AllFit S δ n first last)
+      pub connected_no : (connected_answer T first last ≡ Ok false) ↔ (¬ AllFit S δ n first last)
       unfolding connected_answer
       connected_no = rw (connected-asked (valid-fresh f) first last w) (no_iff (connects T first last) connects-iff)
 
@@ -168,7 +167,7 @@ module _ {n τ δ : ℕ} {S : Contacts} {T : List ℕ} (f : Fresh n τ δ S T) w
         of r = flat-member one n i r.below (subst (λ b. Memᴰ i (cond b (i ∷ []) [])) (sym ((reached-iff i).1 r)) (Memᴰ.head refl))
 
     module _ (w : IsWindow τ first last) where
-      pub reached_found : reached_answer T u first last ≡ Found
+      pub reached_found : reached_answer T u first last ≡ Ok tt
       unfolding reached_answer
       reached_found = rw (reached-asked (valid-fresh f) u first last h w) refl
 
@@ -213,5 +212,5 @@ unfolding reached_words set_words
 reached_eight T u first last = go (reached_refusal T u first last)
   where
     go : (o : Option Refusal) → length (unless o (set_words T u first last) (replicate 8 0)) ≡ 8
-    go none = refl
-    go (some r) = refl
+    go None = refl
+    go (Some r) = refl

@@ -1,20 +1,21 @@
 -- On any table that passes 5 and 6, contacts may be added in any order and more than once; how many are new is by how many the table holds more.
+use Rattle.std.specs.Prelude.{Option, None, Some, Ok}
 use mathlib.Core.Path.{◌≡◌, refl, sym, ap, ◌∙◌, subst}
 use mathlib.Core.Logic.{◌↔◌, ◌⊎◌, inl, inr, ⊎_elim, ◌≢◌}
 use mathlib.Core.Bool.{Bool, true, false, cond}
-use mathlib.Core.Option.{Option, none, some}
 use mathlib.Core.List.Memᴰ
 use mathlib.Core.List.{List, [], ◌∷◌, Memᴰ}
 use Prim.Native.Nat.{ℕ, ◌+◌}
 use native.Mathlib.Omega.{arith}
 use lib.ListN.{length, get_or}
-use Rattle.journeys.specs.Journey.{Contact, In, Same, interval}
+use Rattle.journeys.specs.declared.Contact.{Contact}
+use Rattle.journeys.specs.Journey.{In, Same, interval}
 use Rattle.journeys.specs.Adding.{Cells, add_all}
 use Rattle.journeys.proofs.Tests.{untrue}
 use Rattle.journeys.proofs.AnyOrder.{same_contacts, stands_after}
 use Rattle.rules.specs.declared.Refusal.{Refusal}
-use Rattle.rules.specs.declared.AddAnswer.TheVariants.{New, Known}
-use Rattle.rules.specs.Answers.{unless, add_answer_of}
+use Rattle.rules.specs.declared.Added.TheVariants.{New, Known}
+use Rattle.rules.specs.Answers.{unless, answer_of}
 use Rattle.rules.specs.Layout.{animals, ticks, cells_of}
 use Rattle.rules.specs.Checks.{ValidTable}
 use Rattle.rules.specs.Adding.{Legal, cells_changed, add_refusal, added_cells, add_answer, add_leaves}
@@ -80,8 +81,8 @@ module _ (T : List ℕ) (p : ValidTable T) where
 
   -- A list of calls that a refusal may keep from being made leaves a table that passes them too.
   pub unless-valid : (A : List Contact) (o : Option Refusal) → ValidTable (unless o (run engine T A) T)
-  unless-valid A none = run-valid A
-  unless-valid A (some r) = p
+  unless-valid A None = run-valid A
+  unless-valid A (Some r) = p
 
   -- After one legal contact the table holds it and what it held before.
   add-held : (k : Contact) → Legal (animals T) (ticks T) k → (c : Contact) → Memᴰ c (held_contacts (add_leaves T k)) ↔ (Memᴰ c (held_contacts T) ⊎ (c ≡ k))
@@ -112,18 +113,18 @@ module _ (T : List ℕ) (p : ValidTable T) where
           let b = once-short (k ∷ held_contacts T) (held_contacts (add_leaves T k)) (d, held-once T) (λ c i. ⊎_elim (λ e. (add-held k l c).1 (inr e)) (λ z. (add-held k l c).1 (inl z)) (Memᴰ.cases_cons i)) in
           omega arith
 
-      taken : Legal (animals T) (ticks T) k → (b : Bool) → Adding.holds T k ≡ b → length (held_contacts (add_leaves T k)) ≡ new_one (cond b (Known m) (New m)) + length (held_contacts T)
+      taken : Legal (animals T) (ticks T) k → (b : Bool) → Adding.holds T k ≡ b → length (held_contacts (add_leaves T k)) ≡ new_one (Ok (cond b (Known m) (New m))) + length (held_contacts T)
       taken l true e = omega (arith, known l ((held-iff T k).1 (record { from_below = l.from_below; to_below = l.to_below; from_one = l.from_one; to_last = l.to_last; passes = e })))
       taken l false e = new l (λ h. untrue (sym e ∙ ((held-iff T k).0 h).passes))
 
-      go : (o : Option Refusal) → add_refusal T k ≡ o → length (held_contacts (add_leaves T k)) ≡ new_one (add_answer_of o (cond (Adding.holds T k) (Known m) (New m))) + length (held_contacts T)
-      go none e = taken ((add_iff T k).0 e).1 (Adding.holds T k) refl
-      go (some r) e = omega (arith, ap (λ (L : List ℕ). length (held_contacts L)) (refused-leaves T k r e))
+      go : (o : Option Refusal) → add_refusal T k ≡ o → length (held_contacts (add_leaves T k)) ≡ new_one (answer_of o (Ok (cond (Adding.holds T k) (Known m) (New m)))) + length (held_contacts T)
+      go None e = taken ((add_iff T k).0 e).1 (Adding.holds T k) refl
+      go (Some r) e = omega (arith, ap (λ (L : List ℕ). length (held_contacts L)) (refused-leaves T k r e))
 
 -- A list of calls that a refusal may keep from being made keeps the table's length.
-pub unless-length : (T : List ℕ) (A : List Contact) (o : Option Refusal) → (o ≡ none → ValidTable T) → length (unless o (run engine T A) T) ≡ length T
-unless-length T A none p = run_length T (p refl) A
-unless-length T A (some r) p = refl
+pub unless-length : (T : List ℕ) (A : List Contact) (o : Option Refusal) → (o ≡ None → ValidTable T) → length (unless o (run engine T A) T) ≡ length T
+unless-length T A None p = run_length T (p refl) A
+unless-length T A (Some r) p = refl
 
 -- A list of calls leaves as many contacts more as were new.
 pub run-count : (A : List Contact) (T : List ℕ) → ValidTable T → length (held_contacts (run engine T A)) ≡ new_adds engine T A + length (held_contacts T)

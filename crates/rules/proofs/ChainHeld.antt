@@ -1,19 +1,20 @@
 -- A chain that is shown, on any table, is that of a journey of contacts held, and it fits the window.
+use Rattle.std.specs.Prelude.{Option, None, Some, Ok, option_map}
 use mathlib.Core.Path.{◌≡◌, refl, sym, ap, ◌∙◌, subst}
-use mathlib.Core.Option.{Option, none, some}
 use mathlib.Core.List.{List, [], ◌∷◌, ◌++◌, map}
 use Prim.Native.Nat.{ℕ, ◌-◌, ◌<◌}
 use lib.ListN.{length, drop}
-use Rattle.journeys.specs.Journey.{Contact, contact, In, interval, JourneyTo, single, onward, contacts_of}
+use Rattle.journeys.specs.declared.Contact.{Contact}
+use Rattle.journeys.specs.Journey.{contact, In, interval, JourneyTo, single, onward, contacts_of}
 use Rattle.journeys.proofs.Tests.{never}
 use Rattle.words.specs.Words.{contact_word}
 use Rattle.rules.specs.declared.Refusal.{Refusal}
-use Rattle.rules.specs.declared.ChainAnswer.TheVariants.{Chain}
+use Rattle.rules.specs.Answers.{answer_of}
 use Rattle.rules.specs.Layout.{animals, carry}
 use Rattle.rules.specs.Checks.{ValidTable}
 use Rattle.rules.specs.Logs.{held_contacts}
 use Rattle.rules.specs.Windows.{Fits}
-use Rattle.rules.specs.Chains.{there, leads_on, chain_of, chain_refusal, chain_answer_of, chain_answer, chain_leaves}
+use Rattle.rules.specs.Chains.{there, leads_on, chain_of, chain_refusal, chain_answer, chain_leaves}
 use Rattle.rules.specs.StoredAnswers.{ChainFits}
 use Rattle.rules.proofs.Held.{valid-holds}
 use Rattle.rules.proofs.Windows.{into_window, into_contacts}
@@ -44,12 +45,12 @@ module _ (T : List ℕ) (valid : ValidTable T) (goal b : ℕ) where
 -- ---- the interval kept
 
 -- The chain of a table that passes 5 and 6 is that of a fitting journey of contacts held.
-held-chain : (T : List ℕ) → ValidTable T → (u v first last : ℕ) → u < animals T → (l : List Contact) → chain_of T u v first last ≡ some l
+held-chain : (T : List ℕ) → ValidTable T → (u v first last : ℕ) → u < animals T → (l : List Contact) → chain_of T u v first last ≡ Some l
     → (w : Fits (In (held_contacts T)) (carry T) u v first last) × (contacts_of w.journey ≡ l)
 unfolding HeldJourney
 held-chain T valid u v first last h l = go (kept-chain T u v first last)
   where
-    go : {o : Option (List Contact)} → KeptChain T u v first last o → o ≡ some l → (w : Fits (In (held_contacts T)) (carry T) u v first last) × (contacts_of w.journey ≡ l)
+    go : {o : Option (List Contact)} → KeptChain T u v first last o → o ≡ Some l → (w : Fits (In (held_contacts T)) (carry T) u v first last) × (contacts_of w.journey ≡ l)
     go nothing-kept q = never cc
     go (kept b d f) q =
         let j = walked-held T valid v b h (chain-walked T v b (animals T - 1) u d l q) in
@@ -57,14 +58,14 @@ held-chain T valid u v first last h l = go (kept-chain T u v first last)
 
 -- ---- the answer, and the words left
 
-pub chain_fits : (T : List ℕ) (u v first last : ℕ) (B : List ℕ) (k : ℕ) → chain_answer T u v first last B ≡ Chain k → ChainFits T u v first last B k
+pub chain_fits : (T : List ℕ) (u v first last : ℕ) (B : List ℕ) (k : ℕ) → chain_answer T u v first last B ≡ Ok (Some k) → ChainFits T u v first last B k
 unfolding chain_refusal chain_answer chain_leaves
 chain_fits T u v first last B k = go (chain_refusal T u v first last B) (chain_of T u v first last) refl refl
   where
-    go : (r : Option Refusal) (o : Option (List Contact)) → chain_refusal T u v first last B ≡ r → chain_of T u v first last ≡ o → chain_answer_of r o ≡ Chain k → ChainFits T u v first last B k
-    go (some r) o p q e = never cc
-    go none none p q e = never cc
-    go none (some l) p q e =
+    go : (r : Option Refusal) (o : Option (List Contact)) → chain_refusal T u v first last B ≡ r → chain_of T u v first last ≡ o → answer_of r (Ok (option_map length o)) ≡ Ok (Some k) → ChainFits T u v first last B k
+    go (Some r) o p q e = never cc
+    go None None p q e = never cc
+    go None (Some l) p q e =
         let n : length l ≡ k = cc in
         let a = (pair-behind T u v p).0 in
         let w = held-chain T a.valid u v first last a.from_below l q in

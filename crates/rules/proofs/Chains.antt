@@ -1,7 +1,7 @@
 -- The chain of a fresh table is the one that the rule names, is given exactly when a journey fits, and names no animal twice.
+use Rattle.std.specs.Prelude.{Option, None, Some}
 use mathlib.Core.Path.{◌≡◌, refl, sym, ap, subst}
 use mathlib.Core.Logic.{◌⊎◌, inl, inr, ⊎_elim, ◌≢◌}
-use mathlib.Core.Option.{Option, none, some}
 use mathlib.Core.List.Memᴰ
 use mathlib.Core.List.{List, [], ◌∷◌, Memᴰ}
 use Prim.Native.Nat.{ℕ, zero, suc, ◌+◌, ◌≤◌, ◌<◌}
@@ -9,7 +9,9 @@ use native.Mathlib.Nat.{le_refl}
 use native.Mathlib.Omega.{arith}
 use native.Mathlib.Decide.{ℕ_discrete, dec_le}
 use lib.ListN.{length}
-use Rattle.journeys.specs.Journey.{Contact, contact, Contacts, Interval, interval, Inside, JourneyTo, single, onward, Journey, contacts_of, Minimal}
+use Rattle.journeys.specs.declared.Contact.{Contact}
+use Rattle.journeys.specs.declared.Interval.{Interval}
+use Rattle.journeys.specs.Journey.{contact, Contacts, interval, Inside, JourneyTo, single, onward, Journey, contacts_of, Minimal}
 use Rattle.journeys.proofs.Tests.{never}
 use Rattle.journeys.proofs.Reach.{journey-carries}
 use Rattle.journeys.proofs.Cover.{departure-path, arrival-path}
@@ -62,31 +64,31 @@ module _ (T : List ℕ) (goal b : ℕ) where
     ends : {x d : ℕ} (z : ℕ) → LowestLead x d z there → Walked x d (contact x z d ∷ [])
     goes : {x d : ℕ} {l : List Contact} (z e : ℕ) → LowestLead x d z (leads_on e) → Walked z e l → Walked x d (contact x z d ∷ l)
 
-  none_is : {A : Type 0} {l : List Contact} → none ≡ some l → A
+  none_is : {A : Type 0} {l : List Contact} → None ≡ Some l → A
   none_is e = never cc
 
-  some_is : {l m : List Contact} → some l ≡ some m → l ≡ m
+  some_is : {l m : List Contact} → Some l ≡ Some m → l ≡ m
   some_is e = cc
 
-  pub chain-walked : (most x d : ℕ) (l : List Contact) → chain_from T goal b most x d ≡ some l → Walked x d l
+  pub chain-walked : (most x d : ℕ) (l : List Contact) → chain_from T goal b most x d ≡ Some l → Walked x d l
   unfolding chain_from
   chain-walked zero x d l e = none_is e
   chain-walked (suc most) x d l e = go (lowest-of (leads T goal b x d) (animals T)) (λ z g k q. chain-walked most z g k q) e
     where
       Rest : Type 0
-      Rest = (z g : ℕ) (k : List Contact) → chain_from T goal b most z g ≡ some k → Walked z g k
+      Rest = (z g : ℕ) (k : List Contact) → chain_from T goal b most z g ≡ Some k → Walked z g k
 
-      onwards : (z g : ℕ) → LowestLead x d z (leads_on g) → (o : Option (List Contact)) → ((k : List Contact) → o ≡ some k → Walked z g k)
-          → prepend (contact x z d) o ≡ some l → Walked x d l
-      onwards z g p none r q = none_is q
-      onwards z g p (some k) r q = subst (Walked x d) (some_is q) (goes z g p (r k refl))
+      onwards : (z g : ℕ) → LowestLead x d z (leads_on g) → (o : Option (List Contact)) → ((k : List Contact) → o ≡ Some k → Walked z g k)
+          → prepend (contact x z d) o ≡ Some l → Walked x d l
+      onwards z g p None r q = none_is q
+      onwards z g p (Some k) r q = subst (Walked x d) (some_is q) (goes z g p (r k refl))
 
-      step : (z : ℕ) (w : Lead) → w ≢ nowhere → LowestLead x d z w → Rest → follow x d (animal z w) (chain_from T goal b most) ≡ some l → Walked x d l
+      step : (z : ℕ) (w : Lead) → w ≢ nowhere → LowestLead x d z w → Rest → follow x d (animal z w) (chain_from T goal b most) ≡ Some l → Walked x d l
       step z nowhere k p rest q = absurd (k refl)
       step z there k p rest q = subst (Walked x d) (some_is q) (ends z p)
       step z (leads_on g) k p rest q = onwards z g p (chain_from T goal b most z g) (λ m e. rest z g m e) q
 
-      go : {o : Lowest} → LowestOf (leads T goal b x d) (animals T) o → Rest → follow x d o (chain_from T goal b most) ≡ some l → Walked x d l
+      go : {o : Lowest} → LowestOf (leads T goal b x d) (animals T) o → Rest → follow x d o (chain_from T goal b most) ≡ Some l → Walked x d l
       go (none_below r) rest q = none_is q
       go (first-is {z} {l = w} h p k r) rest q = step z w k (record { below = h; leads-so = p; none-lower = r }) rest q
 
@@ -157,7 +159,7 @@ module _ {n τ δ : ℕ} {S : Contacts} {T : List ℕ} (f : Fresh n τ δ S T) (
           (lowest-candidate x d hx m z (record { contact_held = s; had = inr (o, record { departure = e; leaves = late.leaves; journey = late.journey }) }) p.none-lower)
           o late (rest small)
 
-  pub chain-sound : (most x d : ℕ) (l : List Contact) → x < n → Minimal S δ x goal (interval d b) → chain_from T goal b most x d ≡ some l → IsChain S δ goal b x d l
+  pub chain-sound : (most x d : ℕ) (l : List Contact) → x < n → Minimal S δ x goal (interval d b) → chain_from T goal b most x d ≡ Some l → IsChain S δ goal b x d l
   chain-sound most x d l hx m e = sound hx m (chain-walked T goal b most x d l e)
 
   -- ---- a chain is found wherever the journey kept is minimal
@@ -174,7 +176,7 @@ module _ {n τ δ : ℕ} {S : Contacts} {T : List ℕ} (f : Fresh n τ δ S T) (
   not-again d e z h v m = let q = departure-path (v.minimal.least (interval e b) m.journey (omega (arith, v.earlier), le_refl b)) in omega (arith, v.earlier)
 
   pub chain-complete : (most x d : ℕ) (P : List ℕ) → x < n → x ≢ goal → Minimal S δ x goal (interval d b) → Distinct (goal ∷ x ∷ P) → ((y : ℕ) → Memᴰ y P → Visited d y) → n ≤ length P + most + 1
-      → (l : List Contact) × (chain_from T goal b most x d ≡ some l)
+      → (l : List Contact) × (chain_from T goal b most x d ≡ Some l)
   unfolding chain_from
   chain-complete zero x d P hx xg m u v k = absurd (omega (arith, distinct-few n (goal ∷ x ∷ P) u below))
     where
@@ -183,7 +185,7 @@ module _ {n τ δ : ℕ} {S : Contacts} {T : List ℕ} (f : Fresh n τ δ S T) (
   chain-complete (suc most) x d P hx xg m u v k = go (lowest-of (leads T goal b x d) (animals T)) (λ z e h g w a c. chain-complete most z e (x ∷ P) h g w a c (omega arith))
     where
       Rest : Type 0
-      Rest = (z e : ℕ) → z < n → z ≢ goal → Minimal S δ z goal (interval e b) → Distinct (goal ∷ z ∷ x ∷ P) → ((y : ℕ) → Memᴰ y (x ∷ P) → Visited e y) → (l : List Contact) × (chain_from T goal b most z e ≡ some l)
+      Rest = (z e : ℕ) → z < n → z ≢ goal → Minimal S δ z goal (interval e b) → Distinct (goal ∷ z ∷ x ∷ P) → ((y : ℕ) → Memᴰ y (x ∷ P) → Visited e y) → (l : List Contact) × (chain_from T goal b most z e ≡ Some l)
 
       visited : (e : ℕ) → d + δ ≤ e → (y : ℕ) → Memᴰ y (x ∷ P) → Visited e y
       visited e h y w =
@@ -197,14 +199,14 @@ module _ {n τ δ : ℕ} {S : Contacts} {T : List ℕ} (f : Fresh n τ δ S T) (
         (λ q. not-again e e z (le_refl e) (visited e h z q) w, u.1),
       )
 
-      step : (z : ℕ) (w : Lead) → z < n → w ≢ nowhere → Leads x d hx m z w → Rest → (l : List Contact) × (follow x d (animal z w) (chain_from T goal b most) ≡ some l)
+      step : (z : ℕ) (w : Lead) → z < n → w ≢ nowhere → Leads x d hx m z w → Rest → (l : List Contact) × (follow x d (animal z w) (chain_from T goal b most) ≡ Some l)
       step z nowhere hz q t rest = absurd (q refl)
       step z there hz q t rest = (contact x z d ∷ [], refl)
       step z (leads_on e) hz q (going s o late small) rest =
           let r = rest z e hz o small (different z e o late.leaves small) (visited e late.leaves) in
           (contact x z d ∷ r.0, ap (prepend (contact x z d)) r.1)
 
-      go : {o : Lowest} → LowestOf (leads T goal b x d) (animals T) o → Rest → (l : List Contact) × (follow x d o (chain_from T goal b most) ≡ some l)
+      go : {o : Lowest} → LowestOf (leads T goal b x d) (animals T) o → Rest → (l : List Contact) × (follow x d o (chain_from T goal b most) ≡ Some l)
       go (none_below r) rest =
           let c = some-candidate x d hx m in
           let h = candidate_below x d hx m c.1 in

@@ -5,7 +5,7 @@ use mathlib.Core.Bool.{Bool, true, cond}
 use mathlib.Core.List.Memᴰ
 use mathlib.Core.List.{[], ◌∷◌, Memᴰ, cons-eq-cons, cons≢nil}
 use native.Mathlib.Nat.{le_refl}
-use Rattle.journeys.specs.Journey.{Interval}
+use Rattle.journeys.specs.declared.Interval.{Interval}
 use Rattle.journeys.specs.Cell.{Cell, has_inside, enter, put_in_order, without_containing}
 use Rattle.journeys.proofs.Tests.{Outcome, holds, fails, eq_outcome, and_outcome}
 use Rattle.journeys.proofs.Cover.{Covers, interval-path, departure-path, arrival-path, has_inside-outcome}

@@ -1,4 +1,5 @@
 -- A claimed chain is answered yes exactly when its words spell a fitting journey.
+use Rattle.std.specs.Prelude.{Ok, false}
 use mathlib.Core.Path.{◌≡◌, refl, sym, ap, ap₂, ◌∙◌, subst}
 use mathlib.Core.Logic.{◌↔◌}
 use mathlib.Core.Bool.{true, ◌&&◌}
@@ -7,12 +8,12 @@ use Prim.Native.Nat.{ℕ, ◌+◌, ◌≤◌}
 use native.Mathlib.Omega.{arith}
 use lib.Dec.{leb, ltb, eqb}
 use borrow.Author.Tests.{eqb-true, eq-eqb, leb-true, le-leb, ltb-true, lt-ltb}
-use Rattle.journeys.specs.Journey.{Contact, contact, Contacts, In, interval, JourneyTo, single, onward, contacts_of}
+use Rattle.journeys.specs.declared.Contact.{Contact}
+use Rattle.journeys.specs.Journey.{contact, Contacts, In, interval, JourneyTo, single, onward, contacts_of}
 use Rattle.journeys.proofs.Tests.{untrue}
 use Rattle.words.specs.Layout.{is_of}
 use Rattle.words.specs.Words.{contact_layout, contact_of, contact_word}
 use Rattle.words.proofs.Packed.{contact_of-word, contact_word-is, contact_word-of}
-use Rattle.rules.specs.declared.AskAnswer.TheVariants.{Yes, No}
 use Rattle.rules.specs.Layout.{animals, ticks, carry}
 use Rattle.rules.specs.Checks.{ValidTable}
 use Rattle.rules.specs.Opening.{Sizes}
@@ -177,11 +178,11 @@ module _ (T : List ℕ) (valid : ValidTable T) where
 -- ---- the answers
 
 module _ {n τ δ : ℕ} {T : List ℕ} (g : ValidOf n τ δ T) (u v first last : ℕ) (p : IsPair n u v) (w : IsWindow τ first last) (ws : List ℕ) {P : Type 0} (c : (form_journey T v first last u 0 ws ≡ true) ↔ P) where
-  claimed-yes : (claimed_answer T u v first last ws ≡ Yes) ↔ P
+  claimed-yes : (claimed_answer T u v first last ws ≡ Ok true) ↔ P
   unfolding claimed_answer
   claimed-yes = rw (reach-asked g u v first last p w) (yes_iff (form_journey T v first last u 0 ws) c)
 
-  claimed-no : (claimed_answer T u v first last ws ≡ No) ↔ (¬ P)
+  claimed-no : (claimed_answer T u v first last ws ≡ Ok false) ↔ (¬ P)
   unfolding claimed_answer
   claimed-no = rw (reach-asked g u v first last p w) (no_iff (form_journey T v first last u 0 ws) c)
 

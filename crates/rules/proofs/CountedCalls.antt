@@ -1,21 +1,20 @@
 -- What a tally means after a list of counted calls.
+use Rattle.std.specs.Prelude.{Option, None, Some, Ok, Err, Result, ⊤}
 use mathlib.Core.Path.{◌≡◌, refl, sym, ap, ◌∙◌, subst}
 use mathlib.Core.Logic.{◌↔◌, ◌⊎◌, inl, inr, ⊎_elim}
 use mathlib.Core.Bool.{Bool, true, false, cond}
-use mathlib.Core.Option.{Option, none, some}
 use mathlib.Core.List.Memᴰ
 use mathlib.Core.List.{List, [], ◌∷◌, ◌++◌, map, Memᴰ}
 use Prim.Native.Nat.{ℕ, ◌+◌, ◌≤◌}
 use native.Mathlib.Omega.{arith}
 use lib.ListN.{length}
-use Rattle.journeys.specs.Journey.{Contact, Contacts, With, Without}
+use Rattle.journeys.specs.declared.Contact.{Contact}
+use Rattle.journeys.specs.Journey.{Contacts, With, Without}
 use Rattle.journeys.proofs.Tests.{never}
 use Rattle.rules.specs.declared.Refusal.{Refusal}
 use Rattle.rules.specs.declared.Refusal.TheVariants.{TallyFull}
-use Rattle.rules.specs.declared.AddAnswer.{AddAnswer}
-use Rattle.rules.specs.declared.AddAnswer.TheVariants.{New, Known, Refused as AddRefused}
-use Rattle.rules.specs.declared.DoneAnswer.{DoneAnswer}
-use Rattle.rules.specs.declared.DoneAnswer.TheVariants.{Done, Refused as DoneRefused}
+use Rattle.rules.specs.declared.Added.{Added}
+use Rattle.rules.specs.declared.Added.TheVariants.{New, Known}
 use Rattle.rules.specs.declared.Tally.{Tally}
 use Rattle.rules.specs.Checks.{ValidTable}
 use Rattle.rules.specs.Adding.{Legal, add_refusal, add_answer, add_leaves}
@@ -41,17 +40,17 @@ use Rattle.rules.proofs.Determined.{contact-equal}
 -- ---- the sum of a run
 
 -- A counted add raises the sum by 1.
-raised-sum : (a : AddAnswer) (t : Tally) → tally_sum (raised a t) ≡ tally_sum t + 1
+raised-sum : (a : Result Added Refusal) (t : Tally) → tally_sum (raised a t) ≡ tally_sum t + 1
 unfolding tally_sum
-raised-sum (New c) t = omega arith
-raised-sum (Known c) t = omega arith
-raised-sum (AddRefused r) t = omega arith
+raised-sum (Ok (New c)) t = omega arith
+raised-sum (Ok (Known c)) t = omega arith
+raised-sum (Err r) t = omega arith
 
 -- So does a counted removal.
-removal-sum : (a : DoneAnswer) (t : Tally) → tally_sum (raised_by_removal a t) ≡ tally_sum t + 1
+removal-sum : (a : Result ⊤ Refusal) (t : Tally) → tally_sum (raised_by_removal a t) ≡ tally_sum t + 1
 unfolding tally_sum
-removal-sum Done t = omega arith
-removal-sum (DoneRefused r) t = omega arith
+removal-sum (Ok tt) t = omega arith
+removal-sum (Err r) t = omega arith
 
 -- By cases: a step that is not counted keeps the tally, any other raises its sum by 1.
 step-cases : (s : TallyAndTable) (c : Step) (P : Bool → TallyAndTable → Type 0) → ((U : List ℕ) → P false (record { tally = s.tally; table = U }))
@@ -74,27 +73,27 @@ run-sum (c ∷ A) s =
 -- ---- new minus removed
 
 -- 1 where the removal is done, else 0.
-abbrev done_one : DoneAnswer → ℕ
-done_one Done = 1
-done_one (DoneRefused r) = 0
+abbrev done_one : Result ⊤ Refusal → ℕ
+done_one (Ok tt) = 1
+done_one (Err r) = 0
 
 -- A counted add raises new by 1 where it is answered with new, and keeps removed.
-raised-new : (a : AddAnswer) (t : Tally) → ((raised a t).new ≡ new_one a + t.new) × ((raised a t).removed ≡ t.removed)
-raised-new (New c) t = (omega arith, refl)
-raised-new (Known c) t = (omega arith, refl)
-raised-new (AddRefused r) t = (omega arith, refl)
+raised-new : (a : Result Added Refusal) (t : Tally) → ((raised a t).new ≡ new_one a + t.new) × ((raised a t).removed ≡ t.removed)
+raised-new (Ok (New c)) t = (omega arith, refl)
+raised-new (Ok (Known c)) t = (omega arith, refl)
+raised-new (Err r) t = (omega arith, refl)
 
 -- A counted removal raises removed by 1 where it is done, and keeps new.
-raised-removed : (a : DoneAnswer) (t : Tally) → ((raised_by_removal a t).removed ≡ done_one a + t.removed) × ((raised_by_removal a t).new ≡ t.new)
-raised-removed Done t = (omega arith, refl)
-raised-removed (DoneRefused r) t = (omega arith, refl)
+raised-removed : (a : Result ⊤ Refusal) (t : Tally) → ((raised_by_removal a t).removed ≡ done_one a + t.removed) × ((raised_by_removal a t).new ≡ t.new)
+raised-removed (Ok tt) t = (omega arith, refl)
+raised-removed (Err r) t = (omega arith, refl)
 
 -- A removal that is done leaves one contact fewer, any other leaves their number.
 remove_count : (T W : List ℕ) (k : Contact) → done_one (remove_answer T W k) + length (held_contacts (remove_leaves T W k)) ≡ length (held_contacts T)
 remove_count T W k = go (remove_answer T W k) refl
   where
-    go : (a : DoneAnswer) → remove_answer T W k ≡ a → done_one a + length (held_contacts (remove_leaves T W k)) ≡ length (held_contacts T)
-    go Done e =
+    go : (a : Result ⊤ Refusal) → remove_answer T W k ≡ a → done_one a + length (held_contacts (remove_leaves T W k)) ≡ length (held_contacts T)
+    go (Ok tt) e =
         let L = remove_leaves T W k in
         let h = fresh-held (closed T W k e) in
         let m = ((done_exactly T W k).0 e).2 in
@@ -105,7 +104,7 @@ remove_count T W k = go (remove_answer T W k) refl
         split : (c : Contact) → Memᴰ c (held_contacts T) → Dec (c ≡ k) → Memᴰ c (k ∷ held_contacts (remove_leaves T W k))
         split c i (yes q) = Memᴰ.head q
         split c i (no d) = Memᴰ.tail ((fresh-held (closed T W k e) c).1 (i, d))
-    go (DoneRefused r) e = omega (arith, ap (λ (L : List ℕ). length (held_contacts L)) (remove_kept T W k r e).0)
+    go (Err r) e = omega (arith, ap (λ (L : List ℕ). length (held_contacts L)) (remove_kept T W k r e).0)
 
 -- The table passes 5 and 6, and new is removed and the number of contacts that it holds.
 record Balanced (s : TallyAndTable) : Type 0 where
@@ -162,7 +161,7 @@ module _ {n τ δ : ℕ} {S : Contacts} {s : TallyAndTable} (g : Standing n τ �
   standing-legal l = record { fresh = add-fresh g.fresh k l; number = still-number }
 
   -- A refused call that is counted leaves the set.
-  standing-refused : (r : Refusal) → add_refusal s.table k ≡ some r → Standing n τ δ S (raised_call s k)
+  standing-refused : (r : Refusal) → add_refusal s.table k ≡ Some r → Standing n τ δ S (raised_call s k)
   standing-refused r e = record { fresh = subst (Fresh n τ δ S) (sym (refused-leaves s.table k r e)) g.fresh; number = still-number }
 
 -- ---- the calls accepted
@@ -202,7 +201,7 @@ abbrev Taken : Contacts → TallyAndTable → List Contact → Contacts
 Taken S s A k = S k ⊎ AcceptedCall s A k
 
 -- The same with the first call apart, whose answer is a.
-abbrev TakenFirst : Contacts → Contact → AddAnswer → TallyAndTable → List Contact → Contacts
+abbrev TakenFirst : Contacts → Contact → Result Added Refusal → TallyAndTable → List Contact → Contacts
 TakenFirst S c a s A k = S k ⊎ (((k ≡ c) × Accepted a) ⊎ AcceptedCall s A k)
 
 -- A list of calls joins the contacts accepted to the set, and counts the new ones.
@@ -212,12 +211,12 @@ run-standing [] {S} {s} g = record { fresh = fresh-map g.fresh (λ k. (inl, ⊎_
 run-standing {n} {τ} {δ} (c ∷ A) {S} {s} g = first (λ R r w. run-standing A w)
   where
     -- Of a call that is refused there is nothing to join.
-    passed_over : (a : AddAnswer) (r : TallyAndTable) → (¬ Accepted a) → Standing n τ δ (Taken S r A) (run_counted r (map adds A)) → Standing n τ δ (TakenFirst S c a r A) (run_counted r (map adds A))
+    passed_over : (a : Result Added Refusal) (r : TallyAndTable) → (¬ Accepted a) → Standing n τ δ (Taken S r A) (run_counted r (map adds A)) → Standing n τ δ (TakenFirst S c a r A) (run_counted r (map adds A))
     passed_over a r h w =
         record { fresh = fresh-map w.fresh (λ k. (⊎_elim inl (λ b. inr (inr b)), ⊎_elim inl (⊎_elim (λ b. absurd (h b.1)) inr))); number = w.number }
 
     -- The contact of a call that is accepted joins.
-    joined : (a : AddAnswer) (r : TallyAndTable) → Accepted a → Standing n τ δ (Taken (With S c) r A) (run_counted r (map adds A)) → Standing n τ δ (TakenFirst S c a r A) (run_counted r (map adds A))
+    joined : (a : Result Added Refusal) (r : TallyAndTable) → Accepted a → Standing n τ δ (Taken (With S c) r A) (run_counted r (map adds A)) → Standing n τ δ (TakenFirst S c a r A) (run_counted r (map adds A))
     joined a r h w =
         record {
           fresh = fresh-map w.fresh (λ k. (⊎_elim (⊎_elim inl (λ e. inr (inl (e, h)))) (λ b. inr (inr b)), ⊎_elim (λ b. inl (inl b)) (⊎_elim (λ b. inl (inr b.0)) inr)));
@@ -226,15 +225,15 @@ run-standing {n} {τ} {δ} (c ∷ A) {S} {s} g = first (λ R r w. run-standing A
 
     counted-one : (o : Option Refusal) → add_refusal s.table c ≡ o → ((R : Contacts) → Standing n τ δ R (raised_call s c) → Standing n τ δ (Taken R (raised_call s c) A) (run_counted (raised_call s c) (map adds A)))
         → Standing n τ δ (TakenFirst S c (add_answer s.table c) (raised_call s c) A) (run_counted (raised_call s c) (map adds A))
-    counted-one none e r = let l = (fresh-accepts g.fresh c).0 e in joined (add_answer s.table c) (raised_call s c) ((fresh-accepted g.fresh c).1 l) (r (With S c) (standing-legal g c l))
-    counted-one (some q) e r =
+    counted-one None e r = let l = (fresh-accepts g.fresh c).0 e in joined (add_answer s.table c) (raised_call s c) ((fresh-accepted g.fresh c).1 l) (r (With S c) (standing-legal g c l))
+    counted-one (Some q) e r =
         passed_over (add_answer s.table c) (raised_call s c)
         (λ a. none-some (add_refusal s.table c) q ((fresh-accepts g.fresh c).1 ((fresh-accepted g.fresh c).0 a)) e) (r S (standing-refused g c q e))
 
     first : ((R : Contacts) (r : TallyAndTable) → Standing n τ δ R r → Standing n τ δ (Taken R r A) (run_counted r (map adds A))) → Standing n τ δ (Taken S s (c ∷ A)) (run_counted (after_step s (adds c)) (map adds A))
     first rest =
         let w = counted-cases s.tally s.table c (λ b a L t. Standing n τ δ (TakenFirst S c a (record { tally = t; table = L }) A) (run_counted (record { tally = t; table = L }) (map adds A)))
-        (λ h. passed_over (AddRefused TallyFull) s (λ a. a) (rest S s g)) (λ h. counted-one (add_refusal s.table c) refl (λ R w. rest R (raised_call s c) w)) in
+        (λ h. passed_over (Err TallyFull) s (λ a. a) (rest S s g)) (λ h. counted-one (add_refusal s.table c) refl (λ R w. rest R (raised_call s c) w)) in
         record { fresh = fresh-map w.fresh (λ k. let i = accepted-iff s c A k in (⊎_elim inl (λ a. inr (i.1 a)), ⊎_elim inl (λ a. inr (i.0 a)))); number = w.number }
 
 -- ---- what is promised
@@ -248,8 +247,8 @@ counted-larger : (n τ δ : ℕ) (S : Contacts) (T : List ℕ) → Fresh n τ δ
 counted-larger n τ δ S T f t k = counted-cases t T k (λ b a L u. Accepted a → Fresh n τ δ (With S k) L) (λ h a. absurd a) (λ h a. add-fresh f k ((fresh-accepted f k).0 a))
 
 -- A counted removal that is done leaves it fresh over the smaller.
-counted-smaller : (n τ δ : ℕ) (S : Contacts) (T W : List ℕ) → Fresh n τ δ S T → (t : Tally) (k : Contact) → counted_removal t T W k ≡ Done → Fresh n τ δ (Without S k) (counted_removal_leaves t T W k)
-counted-smaller n τ δ S T W f t k = removal-cases t T W k (λ b a L M u. a ≡ Done → Fresh n τ δ (Without S k) L) (λ h e. never cc) (λ h. smaller f W k)
+counted-smaller : (n τ δ : ℕ) (S : Contacts) (T W : List ℕ) → Fresh n τ δ S T → (t : Tally) (k : Contact) → counted_removal t T W k ≡ Ok tt → Fresh n τ δ (Without S k) (counted_removal_leaves t T W k)
+counted-smaller n τ δ S T W f t k = removal-cases t T W k (λ b a L M u. a ≡ Ok tt → Fresh n τ δ (Without S k) L) (λ h e. never cc) (λ h. smaller f W k)
 
 -- What the tally of a run of adds from zero says.
 counted-adds : (n τ δ : ℕ) (T : List ℕ) → Fresh n τ δ (λ k. ⊥) T → (A : List Contact) → CountedAdds n τ δ T A

@@ -10,7 +10,8 @@ use lib.ListN.{length, get_or, take, drop, replicate, length-append, length-map,
 use lib.Seq.{take_at, drop_at}
 use lib.Dec.{ltb, leb, eqb}
 use borrow.Author.Tests.{eq-eqb, ne_eqb, le-leb, lt-ltb}
-use Rattle.journeys.specs.Journey.{Interval, interval}
+use Rattle.journeys.specs.declared.Interval.{Interval}
+use Rattle.journeys.specs.Journey.{interval}
 use Rattle.journeys.specs.Cell.{Cell, Before, Rising, Limits, WellFormedCell}
 use Rattle.journeys.specs.Adding.{Cells}
 use Rattle.journeys.proofs.Rows.{rows-suffice}

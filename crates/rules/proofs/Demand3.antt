@@ -1,23 +1,23 @@
 -- Demand 3 holds of the engine of documents 01 and 02.
+use Rattle.std.specs.Prelude.{None, Ok}
 use mathlib.Core.Path.{◌≡◌, refl, sym, ap, ap₂, ◌∙◌, subst}
 use mathlib.Core.Logic.{◌↔◌, inl, inr, ◌≢◌}
 use mathlib.Core.Bool.{Bool, true, false, cond, not}
-use mathlib.Core.Option.{none}
 use mathlib.Core.List.{List, [], ◌∷◌, ◌++◌, Memᴰ}
 use Prim.Native.Nat.{ℕ, zero, suc, ◌+◌, ◌≤◌, ◌<◌}
 use native.Mathlib.Omega.{arith}
 use lib.ListN.{length, drop, length-append}
 use lib.Dec.{leb}
 use borrow.Author.Tests.{le-leb}
-use Rattle.journeys.specs.Journey.{Contact, Contacts, With, Same}
+use Rattle.journeys.specs.declared.Contact.{Contact}
+use Rattle.journeys.specs.Journey.{Contacts, With, Same}
 use Rattle.journeys.specs.Adding.{Cells, add}
 use Rattle.journeys.proofs.Tests.{never, untrue, Outcome, holds, fails}
 use Rattle.journeys.proofs.Closed.{add_same}
 use Rattle.journeys.proofs.Theorems.{unchanged}
 use Rattle.words.specs.Words.{opening_word}
 use Rattle.rules.specs.declared.Refusal.TheVariants.{NotOpen, NotWellFormed, LogBufferTooShort}
-use Rattle.rules.specs.declared.AddAnswer.TheVariants.{New, Known}
-use Rattle.rules.specs.declared.WriteAnswer.TheVariants.{Written}
+use Rattle.rules.specs.declared.Added.TheVariants.{New, Known}
 use Rattle.rules.specs.Folds.{flat, sum_below, count_below}
 use Rattle.rules.specs.Layout.{cell_words, cell_at, cell_of, cells_of}
 use Rattle.rules.specs.Checks.{is_open, well_formed}
@@ -30,6 +30,7 @@ use Rattle.rules.specs.Removing.{remove_refusal, remove_answer}
 use Rattle.rules.specs.CallLists.{engine, Call, addition, removal, table_after, SetLeft, Accepted, AcceptedOn, LegalCall}
 use Rattle.rules.specs.Orders.{Sorted, Pair, Lower}
 use Rattle.rules.specs.Demand3.{SameMinimal, Changed, OneMore, OneList, TwoLists, Demand3}
+use Rattle.rules.proofs.Refusals.{done-iff}
 use Rattle.rules.proofs.Folds.{flat-member, member-flat}
 use Rattle.rules.proofs.Decode.{cell-again, table-cell}
 use Rattle.rules.proofs.Laid.{laid-first}
@@ -38,7 +39,7 @@ use Rattle.rules.proofs.Judged.{ensure-iff, open_iff, open_none, accepted-none}
 use Rattle.rules.proofs.Fresh.{fresh-laid, fresh-good, fresh-animals, fresh-carry, fresh-passes, fresh_cells, fresh-accepts, add-fresh, fresh-map, fresh-unique}
 use Rattle.rules.proofs.Sorted.{sorted-flat, sorted-one, member-one}
 use Rattle.rules.proofs.Held.{held-sorted, fresh_holds, fresh-held}
-use Rattle.rules.proofs.Removing.{done_none, same_words}
+use Rattle.rules.proofs.Removing.{same_words}
 use Rattle.rules.proofs.Runs.{removal-accepted, left-fresh}
 
 -- ---- the pairs whose cells differ
@@ -196,7 +197,7 @@ module _ {n τ δ : ℕ} {S : Contacts} {T : List ℕ} (f : Fresh n τ δ S T) (
       of : Changed n δ S k p → Memᴰ p (differing n before-cells after-cells)
       of c = q.1 (c.from_below, c.to_below, λ e. c.changes ((cells-iff p.from p.to c.from_below c.to_below c.different).0 e))
 
-  answer-is : add_answer T k ≡ cond (Adding.holds T k) (Known (length (differing n before-cells after-cells))) (New (length (differing n before-cells after-cells)))
+  answer-is : add_answer T k ≡ Ok (cond (Adding.holds T k) (Known (length (differing n before-cells after-cells))) (New (length (differing n before-cells after-cells))))
   unfolding add_answer added_cells
   answer-is = rw ((fresh-accepts f k).1 l, fresh-animals f, fresh-carry f, differing-length n before-cells after-cells) refl
 
@@ -219,8 +220,8 @@ module _ {n τ δ : ℕ} {S : Contacts} {T : List ℕ} (f : Fresh n τ δ S T) (
         pairs = differing n before-cells after-cells;
         once = differing-once n before-cells after-cells;
         those = more-those;
-        known = rw answer-is (let q = known-iff (Adding.holds T k) m in (λ e. stands-iff.0 (q.0 e), λ s. q.1 (stands-iff.1 s)));
-        new = rw answer-is (let q = new-iff (Adding.holds T k) m in (λ e s. q.0 e (stands-iff.1 s), λ d. q.1 (λ e. d (stands-iff.0 e))));
+        known = rw answer-is (let q = known-iff (Adding.holds T k) m in (λ e. stands-iff.0 (q.0 (cc)), λ s. ap Ok (q.1 (stands-iff.1 s))));
+        new = rw answer-is (let q = new-iff (Adding.holds T k) m in (λ e s. q.0 (cc) (stands-iff.1 s), λ d. ap Ok (q.1 (λ e. d (stands-iff.0 e)))));
         larger = after;
       }
     where
@@ -237,9 +238,9 @@ module _ {n τ δ : ℕ} {S : Contacts} {T : List ℕ} (f : Fresh n τ δ S T) w
   call-accepted : (c : Call) → AcceptedOn engine T c ↔ LegalCall n τ S c
   unfolding remove_answer
   call-accepted (addition k) = fresh-accepted k
-  call-accepted (removal k W) = let a = done_none (remove_refusal T W k) in let b = removal-accepted f k W in (λ e. b.0 (a.0 e), λ h. a.1 (b.1 h))
+  call-accepted (removal k W) = let a = done-iff (remove_refusal T W k) in let b = removal-accepted f k W in (λ e. b.0 (a.0 e), λ h. a.1 (b.1 h))
 
-  write_accepts : (B : List ℕ) → length (held_contacts T) + 2 ≤ length B → write_refusal T B ≡ none
+  write_accepts : (B : List ℕ) → length (held_contacts T) + 2 ≤ length B → write_refusal T B ≡ None
   unfolding write_refusal
   write_accepts B h =
       let p = fresh-passes f in
@@ -247,12 +248,12 @@ module _ {n τ δ : ℕ} {S : Contacts} {T : List ℕ} (f : Fresh n τ δ S T) w
         p.opens,
         (ensure-iff (well_formed T) NotWellFormed _).1 (
           p.formed,
-          (ensure-iff (leb (length (held_contacts T) + 2) (length B)) LogBufferTooShort none).1
+          (ensure-iff (leb (length (held_contacts T) + 2) (length B)) LogBufferTooShort None).1
               (le-leb (length (held_contacts T) + 2) (length B) h, refl),
         ),
       )
 
-  pub fresh-written : (B : List ℕ) → length (held_contacts T) + 2 ≤ length B → write_answer T B ≡ Written (length (held_contacts T) + 2)
+  pub fresh-written : (B : List ℕ) → length (held_contacts T) + 2 ≤ length B → write_answer T B ≡ Ok (length (held_contacts T) + 2)
   unfolding write_answer
   fresh-written B h = rw (write_accepts B h)
 
@@ -263,7 +264,7 @@ module _ {n τ δ : ℕ} {S : Contacts} {T : List ℕ} (f : Fresh n τ δ S T) w
 
 -- ---- the demand
 
-one_list : (n τ δ : ℕ) (words : List ℕ) (A : List Call) → open_refusal n τ δ words ≡ none → OneList engine n τ δ words A
+one_list : (n τ δ : ℕ) (words : List ℕ) (A : List Call) → open_refusal n τ δ words ≡ None → OneList engine n τ δ words A
 one_list n τ δ words A e =
     record {
       accepted = λ P c Q q. call-accepted (left-fresh n τ δ words P e) c;
@@ -295,7 +296,7 @@ demand3 =
       loaded = λ n τ δ wordsA wordsB A B p q. two n τ δ wordsA wordsB A B ((open_none n τ δ wordsA).0 p) ((open_none n τ δ wordsB).0 q);
     }
   where
-    two : (n τ δ : ℕ) (wordsA wordsB : List ℕ) (A B : List Call) → open_refusal n τ δ wordsA ≡ none → open_refusal n τ δ wordsB ≡ none → TwoLists engine n τ δ wordsA wordsB A B
+    two : (n τ δ : ℕ) (wordsA wordsB : List ℕ) (A B : List Call) → open_refusal n τ δ wordsA ≡ None → open_refusal n τ δ wordsB ≡ None → TwoLists engine n τ δ wordsA wordsB A B
     two n τ δ wordsA wordsB A B p q =
         record {
           first = one_list n τ δ wordsA A p;

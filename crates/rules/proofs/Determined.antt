@@ -1,4 +1,5 @@
 -- Any two engines that meet demand 3 agree.
+use Rattle.std.specs.Prelude.{Ok}
 use mathlib.Core.Path.{◌≡◌, refl, sym, ap, ◌∙◌, subst}
 use mathlib.Core.Logic.{◌↔◌, ⊎_elim}
 use mathlib.Core.List.Memᴰ
@@ -6,9 +7,8 @@ use mathlib.Core.List.{List, [], ◌∷◌, ◌++◌, Memᴰ}
 use Prim.Native.Nat.{ℕ}
 use native.Mathlib.Decide.{ℕ_discrete}
 use lib.ListN.{length}
-use Rattle.journeys.specs.Journey.{Contact}
-use Rattle.rules.specs.declared.OpenAnswer.TheVariants.{Opened}
-use Rattle.rules.specs.declared.AddAnswer.TheVariants.{New, Known}
+use Rattle.journeys.specs.declared.Contact.{Contact}
+use Rattle.rules.specs.declared.Added.TheVariants.{New, Known}
 use Rattle.rules.specs.Adding.{Legal}
 use Rattle.rules.specs.Fresh.{Fresh}
 use Rattle.rules.specs.CallLists.{Engine, Call, removal, leaves_after, run_list, table_after, SetLeft, AcceptedOn, LegalCall}
@@ -44,7 +44,7 @@ run-snoc G T [] c = refl
 run-snoc G T (d ∷ A) c = run-snoc G (leaves_after G T d) A c
 
 module _ (E F : Engine) (dE : Demand3 E) (dF : Demand3 F) (n τ δ : ℕ) (words : List ℕ) (A : List Call)
-    (pE : E.open_answer n τ δ words ≡ Opened) (pF : F.open_answer n τ δ words ≡ Opened) where
+    (pE : E.open_answer n τ δ words ≡ Ok tt) (pF : F.open_answer n τ δ words ≡ Ok tt) where
   abbrev of_e : (A : List Call) → OneList E n τ δ words A
   of_e A = (dE.loaded n τ δ words words A A pE pE).first
 
@@ -87,8 +87,8 @@ module _ (E F : Engine) (dE : Demand3 E) (dF : Demand3 F) (n τ δ : ℕ) (words
           (λ p. (λ m. (b.those p).1 ((a.those p).0 m), λ m. (a.those p).1 ((b.those p).0 m)))
 
       go : Dec (Memᴰ k (of_e A).listed) → E.add_answer (table_after E n τ δ words A) k ≡ F.add_answer (table_after F n τ δ words A) k
-      go (yes m) = let s = ((of_e A).own k).0 m in a.known.1 s ∙ ap (λ (q : List Pair). Known (length q)) pairs ∙ sym (b.known.1 s)
-      go (no m) = let d : ¬ SetLeft n τ A k = λ h. m (((of_e A).own k).1 h) in a.new.1 d ∙ ap (λ (q : List Pair). New (length q)) pairs ∙ sym (b.new.1 d)
+      go (yes m) = let s = ((of_e A).own k).0 m in a.known.1 s ∙ ap (λ (q : List Pair). Ok (Known (length q))) pairs ∙ sym (b.known.1 s)
+      go (no m) = let d : ¬ SetLeft n τ A k = λ h. m (((of_e A).own k).1 h) in a.new.1 d ∙ ap (λ (q : List Pair). Ok (New (length q))) pairs ∙ sym (b.new.1 d)
 
   -- The contacts listed are any sorted list of those left.
   listed-is : (G : Engine) (o : OneList G n τ δ words A) (l : List Contact) → Sorted Earlier l → ((k : Contact) → Memᴰ k l ↔ SetLeft n τ A k) → o.listed ≡ l
@@ -116,5 +116,5 @@ module _ (E F : Engine) (dE : Demand3 E) (dF : Demand3 F) (n τ δ : ℕ) (words
 pub determined : Determined
 determined E F dE dF = record { openings = opens; after = λ n τ δ words A p. agree_after E F dE dF n τ δ words A p ((opens n τ δ words).0 p) }
   where
-    opens : (n τ δ : ℕ) (words : List ℕ) → (E.open_answer n τ δ words ≡ Opened) ↔ (F.open_answer n τ δ words ≡ Opened)
+    opens : (n τ δ : ℕ) (words : List ℕ) → (E.open_answer n τ δ words ≡ Ok tt) ↔ (F.open_answer n τ δ words ≡ Ok tt)
     opens n τ δ words = (λ p. (dF.opened n τ δ words).1 ((dE.opened n τ δ words).0 p), λ p. (dE.opened n τ δ words).1 ((dF.opened n τ δ words).0 p))

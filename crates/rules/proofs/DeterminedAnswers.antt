@@ -1,20 +1,16 @@
 -- Any two engines with questions that meet demand 2 agree.
+use Rattle.std.specs.Prelude.{Option, None, Some, Ok, Err, Result, Bool, true, false}
 use mathlib.Core.Path.{◌≡◌, refl, sym, ap, ◌∙◌}
 use mathlib.Core.Logic.{◌↔◌, ◌⊎◌, inl, inr}
-use mathlib.Core.Option.{Option, none, some}
 use mathlib.Core.List.{List}
 use Prim.Native.Nat.{ℕ, ◌+◌, ◌≤◌, ◌<◌}
 use native.Mathlib.Omega.{arith}
 use lib.ListN.{length}
-use Rattle.journeys.specs.Journey.{Contacts, Interval}
+use Rattle.journeys.specs.declared.Interval.{Interval}
+use Rattle.journeys.specs.Journey.{Contacts}
 use Rattle.journeys.proofs.Tests.{never}
 use Rattle.rules.specs.declared.Refusal.{Refusal}
-use Rattle.rules.specs.declared.AskAnswer.{AskAnswer}
-use Rattle.rules.specs.declared.AskAnswer.TheVariants.{Yes, No, Refused as AskRefused}
-use Rattle.rules.specs.declared.Ends.{Ends}
-use Rattle.rules.specs.declared.IntervalAnswer.{IntervalAnswer}
-use Rattle.rules.specs.declared.IntervalAnswer.TheVariants.{At, Nothing}
-use Rattle.rules.specs.Answers.{ends, interval_answer_of}
+use Rattle.rules.specs.Answers.{answer_of}
 use Rattle.rules.specs.Questions.{moment_refusal, earliest_answer, latest_answer}
 use Rattle.rules.specs.Fresh.{Fresh}
 use Rattle.rules.specs.Windows.{IsWindow, IsPair, Fits}
@@ -26,30 +22,30 @@ use Rattle.rules.proofs.Asked.{valid-fresh, moment_asked}
 use Rattle.rules.proofs.Demand2.{demand2}
 
 -- Two answers that are yes and no on the same condition are the same.
-same-ask : {P : Type 0} (x y : AskAnswer) → (x ≡ Yes) ↔ P → (x ≡ No) ↔ (¬ P) → (y ≡ Yes) ↔ P → (y ≡ No) ↔ (¬ P) → x ≡ y
-same-ask Yes y a b c d = sym (c.1 (a.0 refl))
-same-ask No y a b c d = sym (d.1 (b.0 refl))
-same-ask (AskRefused r) y a b c d = never (let e : AskRefused r ≡ No = b.1 (λ p. never (let q : AskRefused r ≡ Yes = a.1 p in cc)) in cc)
+same-ask : {P : Type 0} (x y : Result Bool Refusal) → (x ≡ Ok true) ↔ P → (x ≡ Ok false) ↔ (¬ P) → (y ≡ Ok true) ↔ P → (y ≡ Ok false) ↔ (¬ P) → x ≡ y
+same-ask (Ok true) y a b c d = sym (c.1 (a.0 refl))
+same-ask (Ok false) y a b c d = sym (d.1 (b.0 refl))
+same-ask (Err r) y a b c d = never (let e : Err r ≡ (Ok false) = b.1 (λ p. never (let q : Err r ≡ (Ok true) = a.1 p in cc)) in cc)
 
 -- A condition that an answer tells is decided.
-told : {P : Type 0} (x : AskAnswer) → (x ≡ Yes) ↔ P → (x ≡ No) ↔ (¬ P) → P ⊎ (¬ P)
-told Yes a b = inl (a.0 refl)
-told No a b = inr (b.0 refl)
-told (AskRefused r) a b = never (let e : AskRefused r ≡ No = b.1 (λ p. never (let q : AskRefused r ≡ Yes = a.1 p in cc)) in cc)
+told : {P : Type 0} (x : Result Bool Refusal) → (x ≡ Ok true) ↔ P → (x ≡ Ok false) ↔ (¬ P) → P ⊎ (¬ P)
+told (Ok true) a b = inl (a.0 refl)
+told (Ok false) a b = inr (b.0 refl)
+told (Err r) a b = never (let e : Err r ≡ (Ok false) = b.1 (λ p. never (let q : Err r ≡ (Ok true) = a.1 p in cc)) in cc)
 
 -- An interval is told, or that there is none.
-abbrev Told : IntervalAnswer → Type 0
-Told x = ((e : Ends) × (x ≡ At e)) ⊎ (x ≡ Nothing)
+abbrev Told : Result (Option Interval) Refusal → Type 0
+Told x = ((e : Interval) × (x ≡ Ok (Some e))) ⊎ (x ≡ Ok None)
 
 -- That is so where nothing is refused.
-interval-told : (o : Option Refusal) (m : Option Interval) → o ≡ none → Told (interval_answer_of o m)
-interval-told none none e = inr refl
-interval-told none (some i) e = inl (ends i, refl)
-interval-told (some r) m e = none-some (some r) r e refl
+interval-told : (o : Option Refusal) (m : Option Interval) → o ≡ None → Told (answer_of o (Ok m))
+interval-told None None e = inr refl
+interval-told None (Some i) e = inl (i, refl)
+interval-told (Some r) m e = none-some (Some r) r e refl
 
 -- Two answers that tell the interval of the third are the same.
-same-interval : {P : Ends → Type 0} {N : Type 0} (x y z : IntervalAnswer) → Told z → ((e : Ends) → (x ≡ At e) ↔ P e) → (x ≡ Nothing) ↔ N
-    → ((e : Ends) → (y ≡ At e) ↔ P e) → (y ≡ Nothing) ↔ N → ((e : Ends) → (z ≡ At e) ↔ P e) → (z ≡ Nothing) ↔ N → x ≡ y
+same-interval : {P : Interval → Type 0} {N : Type 0} (x y z : Result (Option Interval) Refusal) → Told z → ((e : Interval) → (x ≡ Ok (Some e)) ↔ P e) → (x ≡ Ok None) ↔ N
+    → ((e : Interval) → (y ≡ Ok (Some e)) ↔ P e) → (y ≡ Ok None) ↔ N → ((e : Interval) → (z ≡ Ok (Some e)) ↔ P e) → (z ≡ Ok None) ↔ N → x ≡ y
 same-interval x y z (inl (e, h)) a b c d p q = let w = (p e).0 h in (a e).1 w ∙ sym ((c e).1 w)
 same-interval x y z (inr h) a b c d p q = let w = q.0 h in b.1 w ∙ sym (d.1 w)
 

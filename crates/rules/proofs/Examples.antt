@@ -9,7 +9,7 @@ use Rattle.rules.specs.Layout.{cell_words, table_words, cell_at, cell_of, cells_
 use Rattle.rules.specs.Checks.{is_open, row_well_formed, rows_well_formed, all_unused, cell_well_formed, well_formed}
 use Rattle.rules.specs.Opening.{open_refusal, open_leaves}
 use Rattle.rules.specs.Adding.{stands, same_cell, cells_changed, add_refusal, added_cells, holds, add_answer, add_leaves}
-use Rattle.rules.specs.Questions.{reaches, reach_refusal, reach_answer, moment_refusal, earliest_answer, latest_answer, connects, connected_refusal, connected_answer, is_reached, set_word, set_words, reached_refusal, reached_answer, reached_count, reached_leaves}
+use Rattle.rules.specs.Questions.{reached_set, reached_words, reaches, reach_refusal, reach_answer, moment_refusal, earliest_answer, latest_answer, connects, connected_refusal, connected_answer, is_reached, set_word, set_words, reached_refusal, reached_answer, reached_count, reached_leaves}
 use Rattle.rules.specs.Chains.{departure_with, leads, lowest, chain_from, chain_of, chain_refusal, chain_answer, chain_leaves}
 use Rattle.rules.specs.Claims.{held_word, goes_on, form_journey, claimed_answer}
 use Rattle.rules.specs.CallLists.{run}
@@ -32,7 +32,7 @@ unfolding
     open_leaves open_refusal table_words flat cell_words run add_leaves add_answer add_refusal is_open is_of well_formed all_below cell_well_formed rows_well_formed row_well_formed all_unused
     cells_of cell_at cell_of added_cells Rule.add Rule.departure_of Rule.arrival_of Rule.enter_both enter put_in_order without_containing has_inside latest_departure earliest_arrival latest_departing earliest_arriving later sooner
     stands holds same_cell cells_changed sum_below count_below reaches reach_refusal reach_answer moment_refusal earliest_answer latest_answer connects connected_refusal connected_answer
-    is_reached set_word set_words reached_refusal reached_answer reached_count reached_leaves departure_with leads lowest chain_from chain_of chain_refusal chain_answer chain_leaves
+    is_reached set_word set_words reached_refusal reached_set reached_words reached_answer reached_count reached_leaves departure_with leads lowest chain_from chain_of chain_refusal chain_answer chain_leaves
     held_word goes_on form_journey claimed_answer
 computed = (refl, refl)
 

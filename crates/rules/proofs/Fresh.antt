@@ -1,12 +1,14 @@
 -- Fresh tables: they pass 5 and 6, are read as their cells, are the only ones over their set, and stay fresh under a legal add.
+use Rattle.std.specs.Prelude.{None}
 use mathlib.Core.Path.{◌≡◌, refl, sym, ◌∙◌, subst}
 use mathlib.Core.Logic.{◌↔◌, ⊎_elim, ◌≢◌}
-use mathlib.Core.Option.{none}
 use mathlib.Core.List.{List, [], Memᴰ}
 use Prim.Native.Nat.{ℕ, ◌<◌}
 use native.Mathlib.Decide.{ℕ_discrete}
 use lib.ListN.{length}
-use Rattle.journeys.specs.Journey.{Contact, Contacts, With, Same, Interval}
+use Rattle.journeys.specs.declared.Contact.{Contact}
+use Rattle.journeys.specs.declared.Interval.{Interval}
+use Rattle.journeys.specs.Journey.{Contacts, With, Same}
 use Rattle.journeys.specs.Cell.{Limits, WellFormedCell}
 use Rattle.journeys.specs.Adding.{Cells, add}
 use Rattle.journeys.proofs.Reach.{journey-carries, journey-limits}
@@ -77,7 +79,7 @@ module _ {n τ δ : ℕ} {S : Contacts} {T : List ℕ} (f : Fresh n τ δ S T) w
   fresh_cells = laid_cells fresh-laid
 
   -- A call on it is accepted exactly when its contact is legal.
-  pub fresh-accepts : (k : Contact) → (add_refusal T k ≡ none) ↔ Legal n τ k
+  pub fresh-accepts : (k : Contact) → (add_refusal T k ≡ None) ↔ Legal n τ k
   fresh-accepts = laid-accepts fresh-laid
 
   -- A fresh table stays fresh under a legal add.
@@ -100,7 +102,7 @@ pub fresh-unique : {n τ δ : ℕ} {S : Contacts} {T U : List ℕ} → Fresh n �
 fresh-unique {n} {τ} {δ} f g = f.words ∙ table_same n τ δ f.cells g.cells (λ x y h k. cells-unique f.minimal g.minimal x y) ∙ sym g.words
 
 -- Opening leaves the fresh table over no contacts.
-pub open_fresh : (n τ δ : ℕ) (T : List ℕ) → open_refusal n τ δ T ≡ none → Fresh n τ δ (λ k. ⊥) (open_leaves n τ δ T)
+pub open_fresh : (n τ δ : ℕ) (T : List ℕ) → open_refusal n τ δ T ≡ None → Fresh n τ δ (λ k. ⊥) (open_leaves n τ δ T)
 unfolding open_leaves
 open_fresh n τ δ T e =
     record { sizes = ((open_iff n τ δ T).0 e).0; legal = λ k b. absurd b; cells = λ x y. []; minimal = empty-cells δ; words = rw e }

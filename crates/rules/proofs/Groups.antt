@@ -1,13 +1,13 @@
 -- Groups of checks: one refuses by itself, or leaves it to the checks behind it; and what the outcome of a call says of the checks ahead.
+use Rattle.std.specs.Prelude.{Option, None, Some}
 use mathlib.Core.Path.{◌≡◌, refl, sym, ap, ◌∙◌}
 use mathlib.Core.Logic.{◌↔◌}
 use mathlib.Core.Bool.{Bool, true, false, not, ◌&&◌}
-use mathlib.Core.Option.{Option, none, some}
 use mathlib.Core.List.{List}
 use Prim.Native.Nat.{ℕ, ◌≤◌, ◌<◌}
 use native.Mathlib.Omega.{arith}
 use lib.Dec.{ltb, eqb}
-use Rattle.journeys.specs.Journey.{Contact}
+use Rattle.journeys.specs.declared.Contact.{Contact}
 use Rattle.journeys.proofs.Tests.{never, untrue}
 use Rattle.rules.specs.declared.Refusal.{Refusal}
 use Rattle.rules.specs.declared.Refusal.TheVariants.{NotOpen, NotWellFormed, NoSuchAnimal, SameAnimal, TickOutOfRange, FirstAfterLast}
@@ -23,15 +23,15 @@ use Rattle.rules.proofs.Judged.{below-iff, differ-iff, within-iff}
 
 -- A group of checks refuses by itself, or leaves it to those behind it.
 pub record Group (f : Option Refusal → Option Refusal) : Type 0 where
-  pub refuses : (r : Refusal) → f none ≡ some r → (o : Option Refusal) → f o ≡ some r
-  pub passes : f none ≡ none → (o : Option Refusal) → f o ≡ o
+  pub refuses : (r : Refusal) → f None ≡ Some r → (o : Option Refusal) → f o ≡ Some r
+  pub passes : f None ≡ None → (o : Option Refusal) → f o ≡ o
 
 -- Nothing refused is no refusal.
-pub none-is_not_some : {A : Type 0} {r : Refusal} → none ≡ some r → A
+pub none-is_not_some : {A : Type 0} {r : Refusal} → None ≡ Some r → A
 none-is_not_some e = never cc
 
 -- A refusal is not nothing refused.
-pub some-is_not_none : {A : Type 0} {r : Refusal} → some r ≡ none → A
+pub some-is_not_none : {A : Type 0} {r : Refusal} → Some r ≡ None → A
 some-is_not_none e = none-is_not_some (sym e)
 
 -- One check is a group.
@@ -41,15 +41,15 @@ one-check false q = record { refuses = λ r e o. e; passes = λ e o. some-is_not
 
 -- Two groups, one after the other, are a group.
 pub both-groups : {f g : Option Refusal → Option Refusal} → Group f → Group g → Group (λ o. f (g o))
-both-groups {f} {g} p q = record { refuses = refuses (f none) refl; passes = passes (f none) refl }
+both-groups {f} {g} p q = record { refuses = refuses (f None) refl; passes = passes (f None) refl }
   where
-    refuses : (a : Option Refusal) → f none ≡ a → (r : Refusal) → f (g none) ≡ some r → (o : Option Refusal) → f (g o) ≡ some r
-    refuses none h r e o = p.passes h (g o) ∙ q.refuses r (sym (p.passes h (g none)) ∙ e) o
-    refuses (some s) h r e o = p.refuses s h (g o) ∙ sym (p.refuses s h (g none)) ∙ e
+    refuses : (a : Option Refusal) → f None ≡ a → (r : Refusal) → f (g None) ≡ Some r → (o : Option Refusal) → f (g o) ≡ Some r
+    refuses None h r e o = p.passes h (g o) ∙ q.refuses r (sym (p.passes h (g None)) ∙ e) o
+    refuses (Some s) h r e o = p.refuses s h (g o) ∙ sym (p.refuses s h (g None)) ∙ e
 
-    passes : (a : Option Refusal) → f none ≡ a → f (g none) ≡ none → (o : Option Refusal) → f (g o) ≡ o
-    passes none h e o = p.passes h (g o) ∙ q.passes (sym (p.passes h (g none)) ∙ e) o
-    passes (some s) h e o = some-is_not_none (sym (p.refuses s h (g none)) ∙ e)
+    passes : (a : Option Refusal) → f None ≡ a → f (g None) ≡ None → (o : Option Refusal) → f (g o) ≡ o
+    passes None h e o = p.passes h (g o) ∙ q.passes (sym (p.passes h (g None)) ∙ e) o
+    passes (Some s) h e o = some-is_not_none (sym (p.refuses s h (g None)) ∙ e)
 
 pub table-group : (T : List ℕ) → Group (ensure_table T)
 table-group T = both-groups (one-check (is_open T) NotOpen) (one-check (well_formed T) NotWellFormed)
@@ -68,8 +68,8 @@ behind-valid T p o = rw (p.opens, p.formed) refl
 
 -- Nothing is refused, or it is with a number above the limit.
 abbrev pub LaterThan : ℕ → Option Refusal → Type 0
-LaterThan limit none = Unit {0}
-LaterThan limit (some r) = limit < number_of r
+LaterThan limit None = Unit {0}
+LaterThan limit (Some r) = limit < number_of r
 
 -- The checks f, with refusals numbered up to the limit, pass exactly when P holds; what comes of them is then what comes of those behind.
 pub record AheadOf (limit : ℕ) (f : Option Refusal → Option Refusal) (P : Type 0) : Type 0 where
@@ -84,8 +84,8 @@ pub ahead_of_more : {low high : ℕ} {f : Option Refusal → Option Refusal} {P 
 ahead_of_more {low} {high} h p = record { behind = λ a l o. p.behind a (later a l) o }
   where
     later : (a : Option Refusal) → LaterThan high a → LaterThan low a
-    later none l = tt
-    later (some r) l = omega arith
+    later None l = tt
+    later (Some r) l = omega arith
 
 -- One check.
 pub one-ahead : {limit : ℕ} {P : Type 0} (b : Bool) (q : Refusal) → number_of q ≤ limit → (b ≡ true) ↔ P → AheadOf limit (ensure b q) P
@@ -93,8 +93,8 @@ one-ahead {limit} {P} b q low w = record { behind = go b w }
   where
     go : (t : Bool) → (t ≡ true) ↔ P → (a : Option Refusal) → LaterThan limit a → (o : Option Refusal) → (ensure t q o ≡ a) ↔ (P × (o ≡ a))
     go true m a h o = (λ e. (m.0 refl, e), λ p. p.1)
-    go false m none h o = (λ e. some-is_not_none e, λ p. untrue (m.1 p.0))
-    go false m (some r) h o = (λ e. let z : q ≡ r = cc in let n = ap number_of z in absurd (omega arith), λ p. untrue (m.1 p.0))
+    go false m None h o = (λ e. some-is_not_none e, λ p. untrue (m.1 p.0))
+    go false m (Some r) h o = (λ e. let z : q ≡ r = cc in let n = ap number_of z in absurd (omega arith), λ p. untrue (m.1 p.0))
 
 -- Two groups, one after the other, where R says that both pass.
 pub both-ahead : {limit : ℕ} {f g : Option Refusal → Option Refusal} {P Q R : Type 0} → AheadOf limit f P → AheadOf limit g Q → (P → Q → R) → (R → P × Q) → AheadOf limit (λ o. f (g o)) R

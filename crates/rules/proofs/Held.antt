@@ -8,7 +8,8 @@ use Prim.Native.Nat.{ℕ, ◌+◌, ◌-◌, ◌*◌, ◌≤◌, ◌<◌}
 use native.Mathlib.Nat.{mul-le-mul_left}
 use native.Mathlib.Omega.{arith}
 use lib.ListN.{length}
-use Rattle.journeys.specs.Journey.{Contact, contact, Contacts, interval}
+use Rattle.journeys.specs.declared.Contact.{Contact}
+use Rattle.journeys.specs.Journey.{contact, Contacts, interval}
 use Rattle.journeys.specs.Adding.{Cells}
 use Rattle.journeys.proofs.Theorems.{contacts-stand}
 use Rattle.rules.specs.Limits.{max_contacts, max_chain}

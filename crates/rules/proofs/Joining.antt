@@ -1,21 +1,21 @@
 -- What is promised of a join.
+use Rattle.std.specs.Prelude.{Option, None, Some, Ok, Err}
 use mathlib.Core.Path.{◌≡◌, refl, sym, ap, ◌∙◌, subst}
 use mathlib.Core.Logic.{◌↔◌, ◌⊎◌, inl, inr, ⊎_elim, ◌≢◌}
 use mathlib.Core.Bool.{Bool, true, false}
-use mathlib.Core.Option.{Option, none, some}
 use mathlib.Core.List.{List, [], Memᴰ}
 use Prim.Native.Nat.{ℕ}
 use native.Mathlib.Omega.{arith}
 use lib.ListN.{length, get_or}
 use lib.Dec.{eqb}
 use borrow.Author.Tests.{eq-eqb, ne_eqb, eqb-true, eqb-false}
-use Rattle.journeys.specs.Journey.{Contact, Contacts, In, Union}
+use Rattle.journeys.specs.declared.Contact.{Contact}
+use Rattle.journeys.specs.Journey.{Contacts, In, Union}
 use Rattle.journeys.proofs.Tests.{never}
 use Rattle.words.specs.Words.{animals_of, ticks_of}
 use Rattle.rules.specs.declared.Refusal.{Refusal}
 use Rattle.rules.specs.declared.Refusal.TheVariants.{DifferentOpenings}
-use Rattle.rules.specs.declared.JoinAnswer.TheVariants.{Joined, Refused}
-use Rattle.rules.specs.Answers.{ensure, unless, join_answer_of}
+use Rattle.rules.specs.Answers.{ensure, answer_of}
 use Rattle.rules.specs.Layout.{animals, ticks}
 use Rattle.rules.specs.Checks.{ValidTable, ensure_table}
 use Rattle.rules.specs.Adding.{Legal}
@@ -25,6 +25,7 @@ use Rattle.rules.specs.CallLists.{engine, run, new_adds}
 use Rattle.rules.specs.Orders.{Earlier}
 use Rattle.rules.specs.Joining.{ensure_same_opening, join_refusal, join_answer, join_leaves}
 use Rattle.rules.specs.JoinRule.{JoinCounts, JoinRule}
+use Rattle.rules.proofs.Refusals.{refused-iff, given-iff, refused-kept}
 use Rattle.rules.proofs.Judged.{ensure-iff}
 use Rattle.rules.proofs.Asked.{valid-behind}
 use Rattle.rules.proofs.Groups.{table-group, behind-valid, table-ahead}
@@ -46,59 +47,55 @@ pub record Joins (F S : List ℕ) : Type 0 where
   pub opening : get_or F 0 0 ≡ get_or S 0 0
 
 -- A join is refused nothing exactly when the two can be joined.
-pub join-iff : (F S : List ℕ) → (join_refusal F S ≡ none) ↔ Joins F S
+pub join-iff : (F S : List ℕ) → (join_refusal F S ≡ None) ↔ Joins F S
 unfolding join_refusal
 join-iff F S = (to, of)
   where
-    to : ensure_table F (ensure_table S (ensure_same_opening F S none)) ≡ none → Joins F S
+    to : ensure_table F (ensure_table S (ensure_same_opening F S None)) ≡ None → Joins F S
     to e =
         let a = valid-behind F e in
         let b = valid-behind S a.1 in
-        let c = (ensure-iff (eqb (get_or F 0 0) (get_or S 0 0)) DifferentOpenings none).0 b.1 in
+        let c = (ensure-iff (eqb (get_or F 0 0) (get_or S 0 0)) DifferentOpenings None).0 b.1 in
         record { first = a.0; second = b.0; opening = eqb-true (get_or F 0 0) (get_or S 0 0) c.0 }
 
-    of : Joins F S → ensure_table F (ensure_table S (ensure_same_opening F S none)) ≡ none
-    of j = behind-valid F j.first _ ∙ behind-valid S j.second _ ∙ ap (λ (b : Bool). ensure b DifferentOpenings none) (eq-eqb (get_or F 0 0) (get_or S 0 0) j.opening)
+    of : Joins F S → ensure_table F (ensure_table S (ensure_same_opening F S None)) ≡ None
+    of j = behind-valid F j.first _ ∙ behind-valid S j.second _ ∙ ap (λ (b : Bool). ensure b DifferentOpenings None) (eq-eqb (get_or F 0 0) (get_or S 0 0) j.opening)
 
 -- ---- what is answered
 
-first_judged : (F S : List ℕ) (r : Refusal) → ensure_table F none ≡ some r → join_answer F S ≡ Refused r
+first_judged : (F S : List ℕ) (r : Refusal) → ensure_table F None ≡ Some r → join_answer F S ≡ Err r
 unfolding join_answer join_refusal
-first_judged F S r e = rw ((table-group F).refuses r e (ensure_table S (ensure_same_opening F S none))) refl
+first_judged F S r e = rw ((table-group F).refuses r e (ensure_table S (ensure_same_opening F S None))) refl
 
-second_judged : (F S : List ℕ) (r : Refusal) → ValidTable F → ensure_table S none ≡ some r → join_answer F S ≡ Refused r
+second_judged : (F S : List ℕ) (r : Refusal) → ValidTable F → ensure_table S None ≡ Some r → join_answer F S ≡ Err r
 unfolding join_answer join_refusal
-second_judged F S r p e = rw (behind-valid F p (ensure_table S (ensure_same_opening F S none)), (table-group S).refuses r e (ensure_same_opening F S none)) refl
+second_judged F S r p e = rw (behind-valid F p (ensure_table S (ensure_same_opening F S None)), (table-group S).refuses r e (ensure_same_opening F S None)) refl
 
 -- 17 is given behind 5 and 6.
-not-seventeen : (T : List ℕ) (o : Option Refusal) → ensure_table T o ≡ some DifferentOpenings → ValidTable T × (o ≡ some DifferentOpenings)
-not-seventeen T o = ((table-ahead T).behind (some DifferentOpenings) (omega arith) o).0
+not-seventeen : (T : List ℕ) (o : Option Refusal) → ensure_table T o ≡ Some DifferentOpenings → ValidTable T × (o ≡ Some DifferentOpenings)
+not-seventeen T o = ((table-ahead T).behind (Some DifferentOpenings) (omega arith) o).0
 
-openings_differ : (F S : List ℕ) → (join_answer F S ≡ Refused DifferentOpenings) ↔ (ValidTable F × ValidTable S × (get_or F 0 0 ≢ get_or S 0 0))
+openings_differ : (F S : List ℕ) → (join_answer F S ≡ Err DifferentOpenings) ↔ (ValidTable F × ValidTable S × (get_or F 0 0 ≢ get_or S 0 0))
 unfolding join_answer join_refusal
 openings_differ F S = (to, of)
   where
-    refused : (m : ℕ) (o : Option Refusal) → join_answer_of o (Joined m) ≡ Refused DifferentOpenings → o ≡ some DifferentOpenings
-    refused m none e = never cc
-    refused m (some r) e = let q : r ≡ DifferentOpenings = cc in ap some q
-
-    differ : (b : Bool) → ensure b DifferentOpenings none ≡ some DifferentOpenings → b ≡ false
+    differ : (b : Bool) → ensure b DifferentOpenings None ≡ Some DifferentOpenings → b ≡ false
     differ true e = never cc
     differ false e = refl
 
-    to : join_answer_of (ensure_table F (ensure_table S (ensure_same_opening F S none))) (Joined (new_adds engine F (held_contacts S))) ≡ Refused DifferentOpenings
+    to : answer_of (ensure_table F (ensure_table S (ensure_same_opening F S None))) (Ok (new_adds engine F (held_contacts S))) ≡ Err DifferentOpenings
         → ValidTable F × ValidTable S × (get_or F 0 0 ≢ get_or S 0 0)
     to e =
-        let a = not-seventeen F _ (refused _ _ e) in
+        let a = not-seventeen F _ ((refused-iff _ _ DifferentOpenings).0 e) in
         let b = not-seventeen S _ a.1 in
         (a.0, b.0, eqb-false (get_or F 0 0) (get_or S 0 0) (differ (eqb (get_or F 0 0) (get_or S 0 0)) b.1))
 
     of : ValidTable F × ValidTable S × (get_or F 0 0 ≢ get_or S 0 0)
-        → join_answer_of (ensure_table F (ensure_table S (ensure_same_opening F S none))) (Joined (new_adds engine F (held_contacts S))) ≡ Refused DifferentOpenings
-    of (p, q, d) = rw (behind-valid F p (ensure_table S (ensure_same_opening F S none)), behind-valid S q (ensure_same_opening F S none), ne_eqb (get_or F 0 0) (get_or S 0 0) d) refl
+        → answer_of (ensure_table F (ensure_table S (ensure_same_opening F S None))) (Ok (new_adds engine F (held_contacts S))) ≡ Err DifferentOpenings
+    of (p, q, d) = rw (behind-valid F p (ensure_table S (ensure_same_opening F S None)), behind-valid S q (ensure_same_opening F S None), ne_eqb (get_or F 0 0) (get_or S 0 0) d) refl
 
 -- Two tables that can be joined are, with as many new contacts as the adds give, and are left as these leave them.
-joined-answer : (F S : List ℕ) → Joins F S → join_answer F S ≡ Joined (new_adds engine F (held_contacts S))
+joined-answer : (F S : List ℕ) → Joins F S → join_answer F S ≡ Ok (new_adds engine F (held_contacts S))
 unfolding join_answer
 joined-answer F S j = rw ((join-iff F S).1 j) refl
 
@@ -106,16 +103,12 @@ pub joined-leaves : (F S : List ℕ) → Joins F S → join_leaves F S ≡ run e
 unfolding join_leaves
 joined-leaves F S j = rw ((join-iff F S).1 j) refl
 
-joined_exactly : (F S : List ℕ) → ((m : ℕ) × (join_answer F S ≡ Joined m)) ↔ (ValidTable F × ValidTable S × (get_or F 0 0 ≡ get_or S 0 0))
+joined_exactly : (F S : List ℕ) → ((m : ℕ) × (join_answer F S ≡ Ok m)) ↔ (ValidTable F × ValidTable S × (get_or F 0 0 ≡ get_or S 0 0))
 unfolding join_answer
 joined_exactly F S = (to, λ h. let j : Joins F S = record { first = h.0; second = h.1; opening = h.2 } in (new_adds engine F (held_contacts S), joined-answer F S j))
   where
-    passed : (m k : ℕ) (o : Option Refusal) → join_answer_of o (Joined m) ≡ Joined k → o ≡ none
-    passed m k none e = refl
-    passed m k (some r) e = never cc
-
-    to : (m : ℕ) × (join_answer F S ≡ Joined m) → ValidTable F × ValidTable S × (get_or F 0 0 ≡ get_or S 0 0)
-    to (m, e) = let j = (join-iff F S).0 (passed _ m (join_refusal F S) e) in (j.first, j.second, j.opening)
+    to : (m : ℕ) × (join_answer F S ≡ Ok m) → ValidTable F × ValidTable S × (get_or F 0 0 ≡ get_or S 0 0)
+    to (m, e) = let j = (join-iff F S).0 ((given-iff (join_refusal F S) _ m).0 e).0 in (j.first, j.second, j.opening)
 
 -- ---- which contacts are held, and how many are new
 
@@ -139,13 +132,13 @@ both_held : (F S : List ℕ) → ValidTable F → ValidTable S → get_or F 0 0 
 both_held F S p q e k = let j : Joins F S = record { first = p; second = q; opening = e } in rw (joined-leaves F S j) (joined-held F S j k)
 
 -- No contact of an equal table is new.
-equal_none : (T : List ℕ) → ValidTable T → join_answer T T ≡ Joined 0
+equal_none : (T : List ℕ) → ValidTable T → join_answer T T ≡ Ok 0
 equal_none T p =
     let a = new_to_first T T p p refl in
     let c = a.number in
     let h = once-short c.contacts [] (sorted-once Earlier earlier-irreflexive earlier-transitive c.contacts c.once) (λ k m. let q = (c.those k).0 m in absurd (q.1 q.0)) in
     let e : a.new ≡ 0 = omega (arith, c.number) in
-    a.answered ∙ ap Joined e
+    a.answered ∙ ap Ok e
 
 -- ---- tables built by adds
 
@@ -203,13 +196,9 @@ join_rule =
 
 -- ---- demand 1
 
-pub join_kept : (F S : List ℕ) (r : Refusal) → join_answer F S ≡ Refused r → join_leaves F S ≡ F
+pub join_kept : (F S : List ℕ) (r : Refusal) → join_answer F S ≡ Err r → join_leaves F S ≡ F
 unfolding join_answer join_leaves
-join_kept F S r = go (join_refusal F S)
-  where
-    go : (o : Option Refusal) → join_answer_of o (Joined (new_adds engine F (held_contacts S))) ≡ Refused r → unless o (run engine F (held_contacts S)) F ≡ F
-    go none e = never cc
-    go (some q) e = refl
+join_kept F S r = refused-kept (join_refusal F S) (new_adds engine F (held_contacts S)) _
 
 pub join_length : (F S : List ℕ) → length (join_leaves F S) ≡ length F
 unfolding join_leaves

@@ -1,21 +1,20 @@
 -- What the refusals of opening and adding say of the numbers.
+use Rattle.std.specs.Prelude.{Option, None, Some, Ok}
 use mathlib.Core.Path.{◌≡◌, refl, ap}
 use mathlib.Core.Logic.{◌↔◌, ◌≢◌}
 use mathlib.Core.Bool.{Bool, true, false, cond, not, ◌&&◌}
-use mathlib.Core.Option.{Option, none, some}
 use mathlib.Core.List.{List}
 use Prim.Native.Nat.{ℕ, ◌≤◌, ◌<◌}
 use native.Mathlib.Omega.{arith}
 use lib.ListN.{length}
 use lib.Dec.{ltb, leb, eqb}
 use borrow.Author.Tests.{eq-eqb, ne_eqb, eqb-true, eqb-false, le-leb, leb-true, lt-ltb, ltb-true, not-true}
-use Rattle.journeys.specs.Journey.{Contact}
+use Rattle.journeys.specs.declared.Contact.{Contact}
 use Rattle.journeys.proofs.Tests.{never}
 use Rattle.rules.specs.declared.Refusal.{Refusal}
 use Rattle.rules.specs.declared.Refusal.TheVariants.{AnimalsBeyondLimit, TicksBeyondLimit, CarryBeyondLimit, WrongLength, NotOpen, NotWellFormed, NoSuchAnimal, SameAnimal, TickOutOfRange}
-use Rattle.rules.specs.declared.OpenAnswer.TheVariants.{Opened}
-use Rattle.rules.specs.declared.AddAnswer.TheVariants.{New, Known}
-use Rattle.rules.specs.Answers.{ensure, unless, open_answer_of, add_answer_of}
+use Rattle.rules.specs.declared.Added.TheVariants.{New, Known}
+use Rattle.rules.specs.Answers.{ensure, unless, answer_of}
 use Rattle.rules.specs.Folds.{within}
 use Rattle.rules.specs.Layout.{table_length, animals, ticks, cells_of}
 use Rattle.rules.specs.Checks.{is_open, well_formed, ValidTable}
@@ -23,22 +22,23 @@ use Rattle.rules.specs.Limits.{max_animals, max_ticks, max_carry}
 use Rattle.rules.specs.Opening.{Sizes, ensure_sizes, open_refusal, open_answer}
 use Rattle.rules.specs.Adding.{Legal, cells_changed, add_refusal, added_cells, holds, add_answer}
 use Rattle.rules.specs.CallLists.{Accepted}
+use Rattle.rules.proofs.Refusals.{done-iff}
 use Rattle.rules.proofs.Folds.{and_left, and_right, and_intro, both_iff}
 
 -- ---- checks in their order
 
-pub none-some : {A : Type 0} (o : Option Refusal) (r : Refusal) → o ≡ none → o ≡ some r → A
+pub none-some : {A : Type 0} (o : Option Refusal) (r : Refusal) → o ≡ None → o ≡ Some r → A
 none-some o r p q = never cc
 
 -- Nothing is refused exactly when the first check passes and the rest refuse nothing.
-pub ensure-iff : (b : Bool) (r : Refusal) (o : Option Refusal) → (ensure b r o ≡ none) ↔ ((b ≡ true) × (o ≡ none))
+pub ensure-iff : (b : Bool) (r : Refusal) (o : Option Refusal) → (ensure b r o ≡ None) ↔ ((b ≡ true) × (o ≡ None))
 ensure-iff true r o = (λ e. (refl, e), λ e. e.1)
-ensure-iff false r o = (λ e. none-some (some r) r e refl, λ e. absurd (let z : ◌≡◌ {A = ℕ} 0 1 = ap (λ (b : Bool). cond b 1 0) e.0 in omega arith))
+ensure-iff false r o = (λ e. none-some (Some r) r e refl, λ e. absurd (let z : ◌≡◌ {A = ℕ} 0 1 = ap (λ (b : Bool). cond b 1 0) e.0 in omega arith))
 
 -- By cases: refused and as it was, or accepted and changed.
-pub unless-cases : {A : Type 0} {a b : A} (o : Option Refusal) (P : Option Refusal → A → Type 0) → ((r : Refusal) → o ≡ some r → P (some r) b) → (o ≡ none → P none a) → P o (unless o a b)
-unless-cases none P f g = g refl
-unless-cases (some r) P f g = f r refl
+pub unless-cases : {A : Type 0} {a b : A} (o : Option Refusal) (P : Option Refusal → A → Type 0) → ((r : Refusal) → o ≡ Some r → P (Some r) b) → (o ≡ None → P None a) → P o (unless o a b)
+unless-cases None P f g = g refl
+unless-cases (Some r) P f g = f r refl
 
 -- Tests of numbers pass exactly when what they ask holds.
 pub below-iff : (a b : ℕ) → (ltb a b ≡ true) ↔ (a < b)
@@ -59,10 +59,10 @@ within-iff low k high = both_iff (most-iff low k) (most-iff k high)
 -- ---- opening
 
 -- The first three checks pass exactly when the three numbers lie within their limits.
-pub sizes-iff : (n τ δ : ℕ) (o : Option Refusal) → (ensure_sizes n τ δ o ≡ none) ↔ (Sizes n τ δ × (o ≡ none))
+pub sizes-iff : (n τ δ : ℕ) (o : Option Refusal) → (ensure_sizes n τ δ o ≡ None) ↔ (Sizes n τ δ × (o ≡ None))
 sizes-iff n τ δ o = (to, of)
   where
-    to : ensure_sizes n τ δ o ≡ none → Sizes n τ δ × (o ≡ none)
+    to : ensure_sizes n τ δ o ≡ None → Sizes n τ δ × (o ≡ None)
     to e =
         let p = (ensure-iff (within 1 n max_animals) AnimalsBeyondLimit _).0 e in
         let q = (ensure-iff (within 1 τ max_ticks) TicksBeyondLimit _).0 p.1 in
@@ -72,7 +72,7 @@ sizes-iff n τ δ o = (to, of)
         let c = (within-iff 1 δ max_carry).0 r.0 in
         (record { n_low = a.0; n_high = a.1; τ-low = b.0; τ-high = b.1; δ-low = c.0; δ-high = c.1 }, r.1)
 
-    of : Sizes n τ δ × (o ≡ none) → ensure_sizes n τ δ o ≡ none
+    of : Sizes n τ δ × (o ≡ None) → ensure_sizes n τ δ o ≡ None
     of h =
         let z = h.0 in
         (ensure-iff (within 1 n max_animals) AnimalsBeyondLimit _).1 (
@@ -85,29 +85,25 @@ sizes-iff n τ δ o = (to, of)
         )
 
 -- Opening is accepted exactly when the three numbers lie within their limits and the table has the length for them.
-pub open_iff : (n τ δ : ℕ) (T : List ℕ) → (open_refusal n τ δ T ≡ none) ↔ (Sizes n τ δ × (length T ≡ table_length n τ))
+pub open_iff : (n τ δ : ℕ) (T : List ℕ) → (open_refusal n τ δ T ≡ None) ↔ (Sizes n τ δ × (length T ≡ table_length n τ))
 unfolding open_refusal
 open_iff n τ δ T = (
-  λ e. let h = (sizes-iff n τ δ last).0 e in (h.0, eqb-true (length T) (table_length n τ) ((ensure-iff (eqb (length T) (table_length n τ)) WrongLength none).0 h.1).0),
-  λ h. (sizes-iff n τ δ last).1 (h.0, (ensure-iff (eqb (length T) (table_length n τ)) WrongLength none).1 (eq-eqb (length T) (table_length n τ) h.1, refl)),
+  λ e. let h = (sizes-iff n τ δ last).0 e in (h.0, eqb-true (length T) (table_length n τ) ((ensure-iff (eqb (length T) (table_length n τ)) WrongLength None).0 h.1).0),
+  λ h. (sizes-iff n τ δ last).1 (h.0, (ensure-iff (eqb (length T) (table_length n τ)) WrongLength None).1 (eq-eqb (length T) (table_length n τ) h.1, refl)),
 )
   where
     last : Option Refusal
-    last = ensure (eqb (length T) (table_length n τ)) WrongLength none
+    last = ensure (eqb (length T) (table_length n τ)) WrongLength None
 
 -- An opening answers opened exactly when nothing refuses it.
-pub open_none : (n τ δ : ℕ) (words : List ℕ) → (open_answer n τ δ words ≡ Opened) ↔ (open_refusal n τ δ words ≡ none)
+pub open_none : (n τ δ : ℕ) (words : List ℕ) → (open_answer n τ δ words ≡ Ok tt) ↔ (open_refusal n τ δ words ≡ None)
 unfolding open_answer
-open_none n τ δ words = go (open_refusal n τ δ words)
-  where
-    go : (o : Option Refusal) → (open_answer_of o ≡ Opened) ↔ (o ≡ none)
-    go none = (λ e. refl, λ e. refl)
-    go (some r) = (λ e. never cc, λ e. none-some (some r) r e refl)
+open_none n τ δ words = done-iff (open_refusal n τ δ words)
 
 -- ---- adding
 
 -- An add is accepted exactly when the table passes 5 and 6 and the contact is legal.
-pub add_iff : (T : List ℕ) (k : Contact) → (add_refusal T k ≡ none) ↔ (ValidTable T × Legal (animals T) (ticks T) k)
+pub add_iff : (T : List ℕ) (k : Contact) → (add_refusal T k ≡ None) ↔ (ValidTable T × Legal (animals T) (ticks T) k)
 unfolding add_refusal
 add_iff T k = (to, of)
   where
@@ -120,13 +116,13 @@ add_iff T k = (to, of)
     pair : Bool
     pair = ltb u (animals T) && ltb v (animals T)
 
-    to : add_refusal T k ≡ none → ValidTable T × Legal (animals T) (ticks T) k
+    to : add_refusal T k ≡ None → ValidTable T × Legal (animals T) (ticks T) k
     to e =
         let p = (ensure-iff (is_open T) NotOpen _).0 e in
         let q = (ensure-iff (well_formed T) NotWellFormed _).0 p.1 in
         let r = (ensure-iff pair NoSuchAnimal _).0 q.1 in
         let s = (ensure-iff (not (eqb u v)) SameAnimal _).0 r.1 in
-        let t = (ensure-iff (within 1 k.tick (ticks T)) TickOutOfRange none).0 s.1 in
+        let t = (ensure-iff (within 1 k.tick (ticks T)) TickOutOfRange None).0 s.1 in
         let w = (within-iff 1 k.tick (ticks T)).0 t.0 in (
           record { opens = p.0; formed = q.0 },
           record {
@@ -138,7 +134,7 @@ add_iff T k = (to, of)
           },
         )
 
-    of : ValidTable T × Legal (animals T) (ticks T) k → add_refusal T k ≡ none
+    of : ValidTable T × Legal (animals T) (ticks T) k → add_refusal T k ≡ None
     of h =
         let p = h.0 in
         let l = h.1 in
@@ -150,7 +146,7 @@ add_iff T k = (to, of)
               and_intro (ltb u (animals T)) (ltb v (animals T)) (lt-ltb u (animals T) l.from_below) (lt-ltb v (animals T) l.to_below),
               (ensure-iff (not (eqb u v)) SameAnimal _).1 (
                 ap not (ne_eqb u v l.apart),
-                (ensure-iff (within 1 k.tick (ticks T)) TickOutOfRange none).1
+                (ensure-iff (within 1 k.tick (ticks T)) TickOutOfRange None).1
                     ((within-iff 1 k.tick (ticks T)).1 (l.from_one, l.to_last), refl),
               ),
             ),
@@ -158,17 +154,17 @@ add_iff T k = (to, of)
         )
 
 -- An add is accepted exactly when nothing refuses it.
-pub accepted-none : (T : List ℕ) (k : Contact) → Accepted (add_answer T k) ↔ (add_refusal T k ≡ none)
+pub accepted-none : (T : List ℕ) (k : Contact) → Accepted (add_answer T k) ↔ (add_refusal T k ≡ None)
 unfolding add_answer
 accepted-none T k = go (add_refusal T k)
   where
     m : ℕ
     m = cells_changed (animals T) (cells_of T) (added_cells T k)
 
-    taken : (b : Bool) → Accepted (cond b (Known m) (New m))
+    taken : (b : Bool) → Accepted (Ok (cond b (Known m) (New m)))
     taken true = tt
     taken false = tt
 
-    go : (o : Option Refusal) → Accepted (add_answer_of o (cond (holds T k) (Known m) (New m))) ↔ (o ≡ none)
-    go none = (λ a. refl, λ e. taken (holds T k))
-    go (some r) = (λ a. absurd a, λ e. none-some (some r) r e refl)
+    go : (o : Option Refusal) → Accepted (answer_of o (Ok (cond (holds T k) (Known m) (New m)))) ↔ (o ≡ None)
+    go None = (λ a. refl, λ e. taken (holds T k))
+    go (Some r) = (λ a. absurd a, λ e. none-some (Some r) r e refl)

@@ -1,16 +1,17 @@
 -- Tables laid out from well-formed cells: what is read off them, and what a list of calls leaves. A table that passes 5 and 6 is one, whether adds
 -- built it or not, and so is a fresh one.
+use Rattle.std.specs.Prelude.{Option, None, Some}
 use mathlib.Core.Path.{◌≡◌, refl, sym, ap, ◌∙◌, subst}
 use mathlib.Core.Logic.{◌↔◌, ⊎_elim}
 use mathlib.Core.Bool.{Bool, true, false, cond, ◌&&◌}
-use mathlib.Core.Option.{Option, none, some}
 use mathlib.Core.List.Memᴰ
 use mathlib.Core.List.{List, [], ◌∷◌}
 use Prim.Native.Nat.{ℕ, ◌<◌}
 use lib.ListN.{length, get_or}
 use lib.Dec.{ltb}
 use borrow.Author.Tests.{lt-ltb, ltb-true}
-use Rattle.journeys.specs.Journey.{Contact, In, Same}
+use Rattle.journeys.specs.declared.Contact.{Contact}
+use Rattle.journeys.specs.Journey.{In, Same}
 use Rattle.journeys.specs.Cell.{WellFormedCell}
 use Rattle.journeys.specs.Adding.{Cells, add, add_all, WellFormed}
 use Rattle.journeys.proofs.Closed.{add_same}
@@ -34,7 +35,7 @@ pub record Laid (n τ δ : ℕ) (C : Cells) (T : List ℕ) : Type 0 where
   pub words : T ≡ table_words n τ δ C
 
 -- A refused call leaves the table.
-pub refused-leaves : (T : List ℕ) (k : Contact) (r : Refusal) → add_refusal T k ≡ some r → add_leaves T k ≡ T
+pub refused-leaves : (T : List ℕ) (k : Contact) (r : Refusal) → add_refusal T k ≡ Some r → add_leaves T k ≡ T
 unfolding add_leaves
 refused-leaves T k r e = rw e
 
@@ -69,7 +70,7 @@ module _ {n τ δ : ℕ} {C : Cells} {T : List ℕ} (f : Laid n τ δ C T) where
   laid_cells x y h k = ap (λ (l : List ℕ). cells_of l x y) f.words ∙ cells-again n τ δ f.sizes C laid-good x y h k
 
   -- A call on it is accepted exactly when its contact is legal.
-  pub laid-accepts : (k : Contact) → (add_refusal T k ≡ none) ↔ Legal n τ k
+  pub laid-accepts : (k : Contact) → (add_refusal T k ≡ None) ↔ Legal n τ k
   laid-accepts k = (
     λ e. rw (laid-animals, laid-ticks) at ((add_iff T k).0 e).1,
     λ l. (add_iff T k).1 (laid-passes, rw (laid-animals, laid-ticks) l),
@@ -115,11 +116,11 @@ run-laid [] f = record { added = []; those = λ k. (λ m. absurd (Memᴰ.not-nil
 run-laid {n} {τ} {δ} {C} (c ∷ A) {T} f = go (add_refusal T c) refl (λ D U g. run-laid A g)
   where
     go : (o : Option Refusal) → add_refusal T c ≡ o → ((D : Cells) (U : List ℕ) → Laid n τ δ D U → Ran n τ δ D A (run engine U A)) → Ran n τ δ C (c ∷ A) (run engine (add_leaves T c) A)
-    go none e r =
+    go None e r =
         let l = (laid-accepts f c).0 e in
         let g = r (add δ C c) (add_leaves T c) (laid-add f c l) in
         record { added = c ∷ g.added; those = legal-more g.those l; laid = g.laid }
-    go (some q) e r =
+    go (Some q) e r =
         let g = r C (add_leaves T c) (subst (Laid n τ δ C) (sym (refused-leaves T c q e)) f) in
         record { added = g.added; those = legal-same g.those (λ l. none-some (add_refusal T c) q ((laid-accepts f c).1 l) e); laid = g.laid }
 

@@ -1,14 +1,15 @@
 -- Where a contact leads, on any table and on a fresh one, where it is the candidates of the chain's rule; and the lowest of them.
+use Rattle.std.specs.Prelude.{Option, None, Some}
 use mathlib.Core.Path.{◌≡◌, refl, sym, ap, ◌∙◌, subst}
 use mathlib.Core.Logic.{◌↔◌, ◌⊎◌, ⊎_elim, ◌≢◌}
 use mathlib.Core.Bool.{Bool, true, false, cond}
-use mathlib.Core.Option.{Option, none, some}
 use mathlib.Core.List.Memᴰ
 use mathlib.Core.List.{List, [], ◌∷◌, Memᴰ}
 use Prim.Native.Nat.{ℕ, zero, suc, ◌+◌, ◌≤◌, ◌<◌}
 use native.Mathlib.Nat.{le_refl}
 use native.Mathlib.Omega.{arith}
-use Rattle.journeys.specs.Journey.{contact, Contacts, Interval, interval, Journey, onward, Minimal}
+use Rattle.journeys.specs.declared.Interval.{Interval}
+use Rattle.journeys.specs.Journey.{contact, Contacts, interval, Journey, onward, Minimal}
 use Rattle.journeys.specs.Cell.{Cell, Rising}
 use Rattle.journeys.proofs.Tests.{never, untrue, Outcome, holds, fails, outcome, eq_outcome, le_outcome, and_outcome}
 use Rattle.journeys.proofs.Cover.{rising-after, departure-path, arrival-path}
@@ -25,8 +26,8 @@ use Rattle.rules.proofs.Held.{fresh_holds}
 
 -- What departure_with found, or that there is none.
 pub data Departing (a b : ℕ) (c : Cell) : Option ℕ → Type 0 where
-  found : {d : ℕ} → Memᴰ (interval d b) c → a ≤ d → Departing a b c (some d)
-  missing : ((d : ℕ) → Memᴰ (interval d b) c → a ≤ d → ⊥) → Departing a b c none
+  found : {d : ℕ} → Memᴰ (interval d b) c → a ≤ d → Departing a b c (Some d)
+  missing : ((d : ℕ) → Memᴰ (interval d b) c → a ≤ d → ⊥) → Departing a b c None
 
 pub departing : (a b : ℕ) (c : Cell) → Departing a b c (departure_with a b c)
 unfolding departure_with
@@ -38,7 +39,7 @@ departing a b (i ∷ c) = go (and_outcome (eq_outcome i.arrival b) (le_outcome a
     tail n (missing g) = missing (λ d m h. ⊎_elim (λ e. n d (sym e) h) (λ k. g d k h) (Memᴰ.cases_cons m))
 
     go : {t : Bool} {o : Option ℕ} → Outcome ((i.arrival ≡ b) × (a ≤ i.departure)) ((i.arrival ≢ b) ⊎ (i.departure < a)) t → Departing a b c o
-        → Departing a b (i ∷ c) (cond t (some i.departure) o)
+        → Departing a b (i ∷ c) (cond t (Some i.departure) o)
     go (holds h) r = found (Memᴰ.head (λ k. record { departure = i.departure; arrival = sym h.0 k })) h.1
     go (fails h) r = tail (λ d e l. ⊎_elim (λ n. n (arrival-path e)) (λ m. let p = departure-path e in omega arith) h) r
 

@@ -32,6 +32,7 @@ pub mod TableCalls
 pub mod LogsRead
 pub mod SheetRule
 pub mod Determined
+pub mod Refusals
 pub mod Rejected
 pub mod Distinct
 pub mod CountedCalls

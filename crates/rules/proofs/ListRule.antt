@@ -1,6 +1,6 @@
 -- The list's definitions meet its rule, and the list on the session comes out as written.
+use Rattle.std.specs.Prelude.{None}
 use mathlib.Core.Path.{◌≡◌, refl, sym, ap, subst}
-use mathlib.Core.Option.{none}
 use mathlib.Core.List.{List, [], ◌∷◌, map}
 use Prim.Native.Nat.{ℕ, zero, suc, ◌<◌}
 use native.Mathlib.Omega.{arith}
@@ -40,7 +40,7 @@ asked-at T (q ∷ l) zero h d = refl
 asked-at T (q ∷ l) (suc i) h d = asked-at T l i (omega arith) d
 
 -- So it is in a list that is answered.
-pub answered-at : (T : List ℕ) → ensure_table T none ≡ none → (l : List Question) (i : ℕ) → i < length l → (d : Question) → get_or (list_leaves T l) i d ≡ asked T (get_or l i d)
+pub answered-at : (T : List ℕ) → ensure_table T None ≡ None → (l : List Question) (i : ℕ) → i < length l → (d : Question) → get_or (list_leaves T l) i d ≡ asked T (get_or l i d)
 unfolding list_leaves
 answered-at T e l i h d = rw e (asked-at T l i h d)
 

@@ -6,7 +6,8 @@ use mathlib.Core.List.{List, [], ◌∷◌, Memᴰ}
 use Prim.Native.Nat.{ℕ, ◌+◌, ◌-◌, ◌*◌, ◌≤◌, ◌<◌}
 use native.Mathlib.Omega.{arith}
 use lib.ListN.{length}
-use Rattle.journeys.specs.Journey.{Contact, contact}
+use Rattle.journeys.specs.declared.Contact.{Contact}
+use Rattle.journeys.specs.Journey.{contact}
 use Rattle.rules.specs.Folds.{flat}
 use Rattle.rules.specs.Orders.{Sorted, Earlier, listed, in_log_order}
 use Rattle.rules.proofs.Folds.{flat-few, flat-skip, flat-member, member-flat}

@@ -1,27 +1,24 @@
 -- What reading a log means, and what two logs have in common, hold of the rules.
+use Rattle.std.specs.Prelude.{None, Ok}
 use mathlib.Core.Path.{◌≡◌, refl, sym, ap, ◌∙◌}
 use mathlib.Core.Logic.{◌↔◌}
 use mathlib.Core.Bool.{cond}
-use mathlib.Core.Option.{Option, none, some}
 use mathlib.Core.List.{List, [], ◌∷◌, Memᴰ}
 use Prim.Native.Nat.{ℕ, ◌+◌, ◌%◌, ◌≤◌}
 use native.Mathlib.Omega.{arith}
 use lib.ListN.{length, take, drop, replicate, length-replicate}
 use lib.Seq.{take_at}
 use borrow.Author.Tests.{le-ltb, eq-eqb}
-use Rattle.journeys.specs.Journey.{Contact, Contacts, Same, In}
-use Rattle.journeys.proofs.Tests.{never}
+use Rattle.journeys.specs.declared.Contact.{Contact}
+use Rattle.journeys.specs.Journey.{Contacts, Same, In}
 use Rattle.words.specs.Words.{opening_word}
-use Rattle.rules.specs.declared.Refusal.{Refusal}
-use Rattle.rules.specs.declared.ReadAnswer.TheVariants.{Read}
-use Rattle.rules.specs.declared.WriteAnswer.TheVariants.{Written}
-use Rattle.rules.specs.Answers.{read_answer_of, write_answer_of}
 use Rattle.rules.specs.Layout.{table_length, animals, ticks, carry}
 use Rattle.rules.specs.Logs.{held_contacts, log_words, write_refusal, write_answer, write_leaves}
 use Rattle.rules.specs.Fresh.{Fresh}
 use Rattle.rules.specs.Reading.{logged_contacts, different, read_refusal, read_answer, read_leaves}
 use Rattle.rules.specs.Sheet.{most_bytes, words_of, too_large, table_text, is_beyond, log_text, sheet_text}
 use Rattle.rules.specs.LogsRead.{IsLog, LogsRead}
+use Rattle.rules.proofs.Refusals.{given-iff}
 use Rattle.rules.proofs.Judged.{open_iff}
 use Rattle.rules.proofs.Fresh.{fresh-length, fresh-passes, fresh-map, fresh-unique}
 use Rattle.rules.proofs.Held.{held-sorted, held-once, held-few, fresh-held}
@@ -33,11 +30,11 @@ use Rattle.rules.proofs.Demand3.{fresh-equal, fresh-log}
 -- ---- a log is read
 
 module _ {n τ δ : ℕ} {l : List Contact} {L : List ℕ} (g : IsLog n τ δ l L) (T : List ℕ) (e : length T ≡ table_length n τ) where
-  log-accepted : read_refusal L T ≡ none
+  log-accepted : read_refusal L T ≡ None
   log-accepted = (read-iff L T).1 (log-readable g T e)
 
   -- It answers the number of different contacts.
-  log-answer : read_answer L T ≡ Read (different l)
+  log-answer : read_answer L T ≡ Ok (different l)
   unfolding read_answer
   log-answer = rw (log-accepted, log-contacts g)
 
@@ -53,38 +50,27 @@ module _ {n τ δ : ℕ} {l : List Contact} {L : List ℕ} (g : IsLog n τ δ l 
   log-held = fresh-held log-fresh
 
   -- Their number is answered.
-  log-number : read_answer L T ≡ Read (length (held_contacts (read_leaves L T)))
-  log-number = log-answer ∙ ap Read (different-length l (held_contacts (read_leaves L T)) (held-once (read_leaves L T)) log-held)
+  log-number : read_answer L T ≡ Ok (length (held_contacts (read_leaves L T)))
+  log-number = log-answer ∙ ap Ok (different-length l (held_contacts (read_leaves L T)) (held-once (read_leaves L T)) log-held)
 
 -- ---- nothing else is read
 
-read-accepted : (L T : List ℕ) (k : ℕ) → read_answer L T ≡ Read k → read_refusal L T ≡ none
+read-accepted : (L T : List ℕ) (k : ℕ) → read_answer L T ≡ Ok k → read_refusal L T ≡ None
 unfolding read_answer
-read-accepted L T k = go (read_refusal L T)
-  where
-    go : (o : Option Refusal) → read_answer_of o (Read (different (logged_contacts L))) ≡ Read k → o ≡ none
-    go none e = refl
-    go (some r) e = never cc
+read-accepted L T k e = ((given-iff (read_refusal L T) (different (logged_contacts L)) k).0 e).0
 
 -- Exactly the logs are read, into tables of the length for them.
-exactly : (L T : List ℕ) → ((k : ℕ) × (read_answer L T ≡ Read k)) ↔ ((n : ℕ) × (τ : ℕ) × (δ : ℕ) × (l : List Contact) × IsLog n τ δ l L × (length T ≡ table_length n τ))
+exactly : (L T : List ℕ) → ((k : ℕ) × (read_answer L T ≡ Ok k)) ↔ ((n : ℕ) × (τ : ℕ) × (δ : ℕ) × (l : List Contact) × IsLog n τ δ l L × (length T ≡ table_length n τ))
 exactly L T = (
   λ r. let h = (read-iff L T).0 (read-accepted L T r.0 r.1) in (animals L, ticks L, carry L, logged_contacts L, readable_log L T h, h.fits),
   λ r. (different r.3, log-answer r.4 T r.5),
 )
 
-number_is : (k m : ℕ) → Read k ≡ Read m → k ≡ m
-number_is k m e = cc
-
 -- The number answered is that of the contacts that the table then holds.
-pub read_held : (L T : List ℕ) (k : ℕ) → read_answer L T ≡ Read k → k ≡ length (held_contacts (read_leaves L T))
-read_held L T k e = let r = (exactly L T).0 (k, e) in number_is k _ (sym e ∙ log-number r.4 T r.5)
+pub read_held : (L T : List ℕ) (k : ℕ) → read_answer L T ≡ Ok k → k ≡ length (held_contacts (read_leaves L T))
+read_held L T k e = let r = (exactly L T).0 (k, e) in ((given-iff None k _).0 (sym e ∙ log-number r.4 T r.5)).1
 
 -- ---- what was written is read back
-
-written_is : (o : Option Refusal) (a b : ℕ) → write_answer_of o (Written a) ≡ Written b → (o ≡ none) × (a ≡ b)
-written_is none a b e = (refl, cc)
-written_is (some r) a b e = never cc
 
 module _ {n τ δ : ℕ} {S : Contacts} {T : List ℕ} (f : Fresh n τ δ S T) where
   -- The words written from a fresh table are a log of the contacts that it holds.
@@ -92,29 +78,29 @@ module _ {n τ δ : ℕ} {S : Contacts} {T : List ℕ} (f : Fresh n τ δ S T) w
   held-log = record { sizes = f.sizes; legal = λ k m. f.legal k ((fresh-held f k).0 m); few = omega (arith, held-few T (fresh-passes f)); words = refl }
 
   -- Reading it gives the table again, and its number of contacts.
-  held-again : (L U : List ℕ) → L ≡ log_words (opening_word n τ δ) (held_contacts T) → length U ≡ length T → (read_answer L U ≡ Read (length (held_contacts T))) × (read_leaves L U ≡ T)
+  held-again : (L U : List ℕ) → L ≡ log_words (opening_word n τ δ) (held_contacts T) → length U ≡ length T → (read_answer L U ≡ Ok (length (held_contacts T))) × (read_leaves L U ≡ T)
   held-again L U w q =
       let e = q ∙ fresh-length f in
       let once = different-length (held_contacts T) (held_contacts T) (held-once T) (λ k. (λ m. m, λ m. m)) in
-      rw w (log-answer held-log U e ∙ ap Read once, fresh-unique (fresh-map (log-fresh held-log U e) (fresh-held f)) f)
+      rw w (log-answer held-log U e ∙ ap Ok once, fresh-unique (fresh-map (log-fresh held-log U e) (fresh-held f)) f)
 
   -- An answer of c + 2 words means that the table holds c contacts, and that those words are its log.
-  written-words : (B : List ℕ) (c : ℕ) → write_answer T B ≡ Written (c + 2) → (length (held_contacts T) ≡ c) × (take (c + 2) (write_leaves T B) ≡ log_words (opening_word n τ δ) (held_contacts T))
+  written-words : (B : List ℕ) (c : ℕ) → write_answer T B ≡ Ok (c + 2) → (length (held_contacts T) ≡ c) × (take (c + 2) (write_leaves T B) ≡ log_words (opening_word n τ δ) (held_contacts T))
   unfolding write_answer
   written-words B c e = (omega (arith, r.1), ap (take (c + 2)) (fresh-log f B fits) ∙ take_at log (drop (length (held_contacts T) + 2) B) (c + 2) (log-length (opening_word n τ δ) (held_contacts T) ∙ r.1))
     where
       log : List ℕ
       log = log_words (opening_word n τ δ) (held_contacts T)
 
-      r : (write_refusal T B ≡ none) × (length (held_contacts T) + 2 ≡ c + 2)
-      r = written_is (write_refusal T B) (length (held_contacts T) + 2) (c + 2) e
+      r : (write_refusal T B ≡ None) × (length (held_contacts T) + 2 ≡ c + 2)
+      r = (given-iff (write_refusal T B) (length (held_contacts T) + 2) (c + 2)).0 e
 
       fits : length (held_contacts T) + 2 ≤ length B
       fits = (write_fits T B r.0).1
 
-  written-again : (B : List ℕ) (c : ℕ) → write_answer T B ≡ Written (c + 2) → (U : List ℕ) → length U ≡ length T
-      → (read_answer (take (c + 2) (write_leaves T B)) U ≡ Read c) × (read_leaves (take (c + 2) (write_leaves T B)) U ≡ T)
-  written-again B c e U q = let w = written-words B c e in let r = held-again _ U w.1 q in (r.0 ∙ ap Read w.0, r.1)
+  written-again : (B : List ℕ) (c : ℕ) → write_answer T B ≡ Ok (c + 2) → (U : List ℕ) → length U ≡ length T
+      → (read_answer (take (c + 2) (write_leaves T B)) U ≡ Ok c) × (read_leaves (take (c + 2) (write_leaves T B)) U ≡ T)
+  written-again B c e U q = let w = written-words B c e in let r = held-again _ U w.1 q in (r.0 ∙ ap Ok w.0, r.1)
 
 -- ---- two logs
 

@@ -7,7 +7,8 @@ use mathlib.Core.List.{List, ◌++◌, Memᴰ}
 use Prim.Native.Nat.{ℕ, ◌≤◌}
 use native.Mathlib.Omega.{arith}
 use lib.ListN.{length, length-append}
-use Rattle.journeys.specs.Journey.{Contact, Contacts, Same}
+use Rattle.journeys.specs.declared.Contact.{Contact}
+use Rattle.journeys.specs.Journey.{Contacts, Same}
 use Rattle.journeys.proofs.Tests.{Outcome, holds, fails}
 use Rattle.rules.specs.Layout.{animals, ticks}
 use Rattle.rules.specs.Checks.{ValidTable}

@@ -1,8 +1,8 @@
 -- Reading a log: what its checks say of the words, how many different contacts a list has, and what a log is as words.
+use Rattle.std.specs.Prelude.{Option, None, Some}
 use mathlib.Core.Path.{◌≡◌, refl, sym, ap, ap₂, ◌∙◌, subst}
 use mathlib.Core.Logic.{◌↔◌, ◌⊎◌, inl, inr, ⊎_elim, ◌≢◌}
 use mathlib.Core.Bool.{Bool, true, false, cond, not, ◌&&◌, ◌||◌, false≢true, or_assoc, or_comm, or-true, or-false}
-use mathlib.Core.Option.{Option, none, some}
 use mathlib.Core.List.Memᴰ
 use mathlib.Core.List.{List, [], ◌∷◌, ◌++◌, map, Memᴰ}
 use Prim.Native.Nat.{ℕ, suc, ◌+◌, ◌-◌, ◌^◌, ◌≤◌, ◌<◌}
@@ -11,7 +11,7 @@ use lib.ListN.{length, get_or, take, drop, length-append, length-map, length-dro
 use lib.Seq.{take_at, get_or_at, drop-cons, take_all, take-suc, get_or-drop}
 use lib.Dec.{leb, ltb, eqb}
 use borrow.Author.Tests.{eq-eqb, ne_eqb, eqb-true, eqb-false, le-leb, leb-true, lt-ltb, ltb-true, not-true}
-use Rattle.journeys.specs.Journey.{Contact}
+use Rattle.journeys.specs.declared.Contact.{Contact}
 use Rattle.journeys.proofs.Tests.{Outcome, holds, fails, eq_outcome, and_outcome}
 use Rattle.words.specs.Layout.{get, is_of}
 use Rattle.words.specs.Words.{opening_word, animals_of, ticks_of, carry_of, contact_layout, contact_word, contact_of, end_layout, end_word, logged_field}
@@ -19,13 +19,13 @@ use Rattle.words.proofs.Packed.{contact_of-bound, contact_of-word, contact_word-
 use Rattle.rules.specs.Limits.{max_animals, max_ticks}
 use Rattle.rules.specs.declared.Refusal.{Refusal}
 use Rattle.rules.specs.declared.Refusal.TheVariants.{NotALog, WrongLength, NotAContact, IllegalContact, WrongEnd}
-use Rattle.rules.specs.declared.LogWord.TheVariants.{Legal as LegalWord, NoContact, NotLegal}
+use Rattle.rules.specs.Answers.{ensure}
 use Rattle.rules.specs.Layout.{table_length, animals, ticks, carry}
 use Rattle.rules.specs.Opening.{Sizes, open_refusal}
 use Rattle.rules.specs.Adding.{Legal, same_contact}
 use Rattle.rules.specs.Logs.{log_words}
 use Rattle.rules.specs.LogsRead.{IsLog}
-use Rattle.rules.specs.Reading.{is_log, between, logged_contacts, is_true_end, is_legal, log_word, ensure_legal, ensure_words, read_refusal, comes_in, different}
+use Rattle.rules.specs.Reading.{is_log, between, logged_contacts, is_true_end, is_legal, ensure_word, ensure_words, read_refusal, comes_in, different}
 use Rattle.rules.proofs.Folds.{and_left, and_right, and_intro, passes-iff, map_back, member-outcome}
 use Rattle.rules.proofs.Distinct.{Once, once-short}
 use Rattle.rules.proofs.Decode.{animals-again, ticks-again, carry-again}
@@ -75,27 +75,27 @@ is_legal-iff n τ k h = (to, of)
         (ap not (ne_eqb k.from k.to l.apart)))
         (le-leb k.tick τ l.to_last)
 
-legal-passes : (a b : Bool) (o : Option Refusal) → (ensure_legal (cond a (cond b LegalWord NotLegal) NoContact) o ≡ none) ↔ ((a ≡ true) × (b ≡ true) × (o ≡ none))
+legal-passes : (a b : Bool) (o : Option Refusal) → (ensure a NotAContact (ensure b IllegalContact o) ≡ None) ↔ ((a ≡ true) × (b ≡ true) × (o ≡ None))
 legal-passes true true o = (λ e. (refl, refl, e), λ h. h.2)
-legal-passes true false o = (λ e. none-some (some IllegalContact) IllegalContact e refl, λ h. absurd (false≢true h.1))
-legal-passes false b o = (λ e. none-some (some NotAContact) NotAContact e refl, λ h. absurd (false≢true h.0))
+legal-passes true false o = (λ e. none-some (Some IllegalContact) IllegalContact e refl, λ h. absurd (false≢true h.1))
+legal-passes false b o = (λ e. none-some (Some NotAContact) NotAContact e refl, λ h. absurd (false≢true h.0))
 
 -- A word passes its check exactly when it is a legal contact's word.
-pub word-iff : (n τ w : ℕ) (o : Option Refusal) → (ensure_legal (log_word n τ w) o ≡ none) ↔ (IsLegalWord n τ w × (o ≡ none))
-unfolding log_word
+pub word-iff : (n τ w : ℕ) (o : Option Refusal) → (ensure_word n τ w o ≡ None) ↔ (IsLegalWord n τ w × (o ≡ None))
+unfolding ensure_word
 word-iff n τ w o = (
   λ e. let h = p.0 e in ((h.0, q.0 h.1), h.2),
   λ h. p.1 (h.0.0, q.1 h.0.1, h.1),
 )
   where
-    p : (ensure_legal (cond (is_of contact_layout w) (cond (is_legal n τ (contact_of w)) LegalWord NotLegal) NoContact) o ≡ none) ↔ ((is_of contact_layout w ≡ true) × (is_legal n τ (contact_of w) ≡ true) × (o ≡ none))
+    p : (ensure (is_of contact_layout w) NotAContact (ensure (is_legal n τ (contact_of w)) IllegalContact o) ≡ None) ↔ ((is_of contact_layout w ≡ true) × (is_legal n τ (contact_of w) ≡ true) × (o ≡ None))
     p = legal-passes (is_of contact_layout w) (is_legal n τ (contact_of w)) o
 
     q : (is_legal n τ (contact_of w) ≡ true) ↔ Legal n τ (contact_of w)
     q = is_legal-iff n τ (contact_of w) (contact_of-bound w).2
 
 -- The words pass their checks exactly when each is a legal contact's word.
-pub words-iff : (n τ : ℕ) (ws : List ℕ) (o : Option Refusal) → (ensure_words n τ ws o ≡ none) ↔ (((w : ℕ) → Memᴰ w ws → IsLegalWord n τ w) × (o ≡ none))
+pub words-iff : (n τ : ℕ) (ws : List ℕ) (o : Option Refusal) → (ensure_words n τ ws o ≡ None) ↔ (((w : ℕ) → Memᴰ w ws → IsLegalWord n τ w) × (o ≡ None))
 unfolding ensure_words
 words-iff n τ [] o = (λ e. (λ w m. absurd (Memᴰ.not-nil m), e), λ h. h.1)
 words-iff n τ (v ∷ ws) o =
@@ -113,7 +113,7 @@ pub record Readable (L T : List ℕ) : Type 0 where
   pub true-end : is_true_end (length (between L)) (get_or L (length L - 1) 0) ≡ true
 
 -- Reading refuses nothing exactly when the checks hold.
-pub read-iff : (L T : List ℕ) → (read_refusal L T ≡ none) ↔ Readable L T
+pub read-iff : (L T : List ℕ) → (read_refusal L T ≡ None) ↔ Readable L T
 unfolding read_refusal
 read-iff L T = (to, of)
   where
@@ -126,25 +126,25 @@ read-iff L T = (to, of)
     last : Bool
     last = is_true_end (length (between L)) (get_or L (length L - 1) 0)
 
-    to : read_refusal L T ≡ none → Readable L T
+    to : read_refusal L T ≡ None → Readable L T
     to e =
         let p = (ensure-iff (is_log L) NotALog _).0 e in
         let q = (ensure-iff (eqb (length T) (table_length n τ)) WrongLength _).0 p.1 in
         let r = (words-iff n τ (between L) _).0 q.1 in
-        record { log = p.0; fits = eqb-true (length T) (table_length n τ) q.0; contacts = r.0; true-end = ((ensure-iff last WrongEnd none).0 r.1).0 }
+        record { log = p.0; fits = eqb-true (length T) (table_length n τ) q.0; contacts = r.0; true-end = ((ensure-iff last WrongEnd None).0 r.1).0 }
 
-    of : Readable L T → read_refusal L T ≡ none
+    of : Readable L T → read_refusal L T ≡ None
     of h =
         (ensure-iff (is_log L) NotALog _).1 (
           h.log,
           (ensure-iff (eqb (length T) (table_length n τ)) WrongLength _).1 (
             eq-eqb (length T) (table_length n τ) h.fits,
-            (words-iff n τ (between L) _).1 (h.contacts, (ensure-iff last WrongEnd none).1 (h.true-end, refl)),
+            (words-iff n τ (between L) _).1 (h.contacts, (ensure-iff last WrongEnd None).1 (h.true-end, refl)),
           ),
         )
 
 -- A table that a log is read into can be opened with the log's numbers.
-pub read-opens : (L T : List ℕ) → Readable L T → open_refusal (animals L) (ticks L) (carry L) T ≡ none
+pub read-opens : (L T : List ℕ) → Readable L T → open_refusal (animals L) (ticks L) (carry L) T ≡ None
 read-opens L T h = (open_iff (animals L) (ticks L) (carry L) T).1 (table-sizes L, h.fits)
 
 -- ---- how many different contacts

@@ -1,4 +1,5 @@
 -- Each wrong engine goes wrong on a list of calls, so it does not meet demand 3, nor demand 2 where its tables store wrong intervals.
+use Rattle.std.specs.Prelude.{Ok, Err, Result}
 use mathlib.Core.Path.{◌≡◌, refl, ap}
 use mathlib.Core.Logic.{◌↔◌, inl, inr, ⊎_elim}
 use mathlib.Core.List.Memᴰ
@@ -6,15 +7,16 @@ use mathlib.Core.List.{List, [], ◌∷◌, Memᴰ}
 use Prim.Native.Nat.{ℕ, suc, ◌+◌}
 use native.Mathlib.Omega.{arith}
 use lib.ListN.{get_or, replicate}
-use Rattle.journeys.specs.Journey.{Contact, contact, Interval, interval}
+use Rattle.journeys.specs.declared.Contact.{Contact}
+use Rattle.journeys.specs.declared.Interval.{Interval}
+use Rattle.journeys.specs.Journey.{contact, interval}
 use Rattle.journeys.specs.Cell.{later, sooner, latest_departing, earliest_arriving, latest_departure, earliest_arrival, has_inside, without_containing, put_in_order, enter}
 use Rattle.journeys.specs.Adding.{departure_of, arrival_of, enter_both, add, add_all, cells_over}
 use Rattle.journeys.proofs.Tests.{never}
 use Rattle.words.specs.Layout.{is_of}
-use Rattle.rules.specs.declared.OpenAnswer.TheVariants.{Opened, Refused as OpenRefused}
-use Rattle.rules.specs.declared.DoneAnswer.TheVariants.{Done, Refused as DoneRefused}
-use Rattle.rules.specs.declared.AddAnswer.{AddAnswer}
-use Rattle.rules.specs.declared.AddAnswer.TheVariants.{New, Known, Refused as AddRefused}
+use Rattle.rules.specs.declared.Refusal.{Refusal}
+use Rattle.rules.specs.declared.Added.{Added}
+use Rattle.rules.specs.declared.Added.TheVariants.{New, Known}
 use Rattle.rules.specs.Folds.{flat, all_below, sum_below, count_below}
 use Rattle.rules.specs.Layout.{cell_words, table_words, cell_at, cell_of, cells_of}
 use Rattle.rules.specs.Checks.{is_open, row_well_formed, rows_well_formed, all_unused, cell_well_formed, well_formed}
@@ -39,7 +41,7 @@ abbrev blank : List ℕ
 blank = replicate 28 0
 
 -- An engine that meets the demand leaves on it what the engine of document 01 leaves, word for word.
-module _ (E : Engine) (d : Demand3 E) (p : E.open_answer 3 2 1 blank ≡ Opened) (A : List Call) where
+module _ (E : Engine) (d : Demand3 E) (p : E.open_answer 3 2 1 blank ≡ Ok tt) (A : List Call) where
   agree : AgreeAfter E engine 3 2 1 blank A
   agree = (determined E engine d demand3).after 3 2 1 blank A p
 
@@ -50,10 +52,10 @@ module _ (E : Engine) (d : Demand3 E) (p : E.open_answer 3 2 1 blank ≡ Opened)
   same_answer = agree.answers
 
 -- An answer as a number.
-abbrev told : AddAnswer → ℕ
-told (New k) = k + k
-told (Known k) = suc (k + k)
-told (AddRefused r) = 100
+abbrev told : Result Added Refusal → ℕ
+told (Ok (New k)) = k + k
+told (Ok (Known k)) = suc (k + k)
+told (Err r) = 100
 
 first : Legal 3 2 (contact 0 1 1)
 first = record { from_below = omega arith; to_below = omega arith; apart = λ e. omega arith; from_one = omega arith; to_last = omega arith }
@@ -85,7 +87,7 @@ twice-sorted : Sorted Earlier twice
 twice-sorted = (inl (omega arith), (tt, tt))
 
 -- The same word in a log of these two contacts.
-same_logged : (E : Engine) → Demand3 E → E.open_answer 3 2 1 blank ≡ Opened → (i : ℕ)
+same_logged : (E : Engine) → Demand3 E → E.open_answer 3 2 1 blank ≡ Ok tt → (i : ℕ)
     → get_or (E.write_leaves (table_after E 3 2 1 blank added_twice) (replicate 6 0)) i 0 ≡ get_or (engine.write_leaves (table_after engine 3 2 1 blank added_twice) (replicate 6 0)) i 0
 same_logged E d p i = ap (λ (l : List ℕ). get_or l i 0) ((agree E d p added_twice).log twice twice-sorted twice-left (replicate 6 0) (omega arith))
 
@@ -121,7 +123,7 @@ rejected =
       always_known = λ d. (let w : ◌≡◌ {A = ℕ} 3 2 = ap told (same_answer always_known d refl [] (contact 0 1 1) first) in omega arith);
       always_new = λ d. (let w : ◌≡◌ {A = ℕ} 0 1 = ap told (same_answer always_new d refl (addition (contact 0 1 1) ∷ []) (contact 0 1 1) first) in omega arith);
       refuses_adds = λ d. (let w : ◌≡◌ {A = ℕ} 100 2 = ap told (same_answer refuses_adds d refl [] (contact 0 1 1) first) in omega arith);
-      refuses_openings = λ d. (let w : OpenRefused _ ≡ Opened = ((determined refuses_openings engine d demand3).openings 3 2 1 blank).1 refl in never cc);
+      refuses_openings = λ d. (let w : Err _ ≡ (Ok tt) = ((determined refuses_openings engine d demand3).openings 3 2 1 blank).1 refl in never cc);
       unsorted_log = λ d. (let w : ◌≡◌ {A = ℕ} 0x4000_0401 0x4000_0400 = same_logged unsorted_log d refl 1 in omega arith);
       repeats_in_log = λ d. (let w : ◌≡◌ {A = ℕ} 0x4000_0400 0xC000_0002 = same_logged repeats_in_log d refl 3 in omega arith);
       removes_nothing = λ d. (let w : ◌≡◌ {A = ℕ} 0xC000_0001 0xC000_0000 = same_word removes_nothing d refl one-removed 7 in omega arith);
@@ -131,15 +133,15 @@ rejected =
       forgets_displaced = λ d. (let w : ◌≡◌ {A = ℕ} 0xC000_0000 0xC000_0001 = same_word forgets_displaced d refl displacing_removed 7 in omega arith);
       leaves_work = λ d.
           (let w : ◌≡◌ {A = ℕ} 0 0x8008_0001 = ap (λ (l : List ℕ). get_or l 0 0) ((agree leaves_work d refl added-one).works (contact 0 1 1) blank (inr (refl, first), refl)) in omega arith);
-      refuses_removals = λ d. (let w : DoneRefused _ ≡ Done = ((agree refuses_removals d refl added-one).accepted (removal (contact 0 1 1) blank)).1 refl in never cc);
-      removes_unheld = λ d. (let w : DoneRefused _ ≡ Done = ((agree removes_unheld d refl added-one).accepted (removal (contact 0 1 2) blank)).0 refl in never cc);
-      removes_any_length = λ d. (let w : DoneRefused _ ≡ Done = ((agree removes_any_length d refl added-one).accepted (removal (contact 0 1 1) [])).0 refl in never cc);
+      refuses_removals = λ d. (let w : Err _ ≡ (Ok tt) = ((agree refuses_removals d refl added-one).accepted (removal (contact 0 1 1) blank)).1 refl in never cc);
+      removes_unheld = λ d. (let w : Err _ ≡ (Ok tt) = ((agree removes_unheld d refl added-one).accepted (removal (contact 0 1 2) blank)).0 refl in never cc);
+      removes_any_length = λ d. (let w : Err _ ≡ (Ok tt) = ((agree removes_any_length d refl added-one).accepted (removal (contact 0 1 1) [])).0 refl in never cc);
     }
 
 -- ---- demand 2
 
 -- An engine that meets the demand stores on the table what the engine of document 01 stores.
-module _ (E : Engine) (Q : Questions) (d : Demand2 E Q) (p : E.open_answer 3 2 1 blank ≡ Opened) (A : List Call) (u v : ℕ) (h : IsPair 3 u v) (i : Interval) where
+module _ (E : Engine) (Q : Questions) (d : Demand2 E Q) (p : E.open_answer 3 2 1 blank ≡ Ok tt) (A : List Call) (u v : ℕ) (h : IsPair 3 u v) (i : Interval) where
   same-stored : StoredIn 3 2 (table_after E 3 2 1 blank A) u v i ↔ StoredIn 3 2 (table_after engine 3 2 1 blank A) u v i
   unfolding open_answer open_refusal
   same-stored = (determined_answers E engine Q questions d demand2).stored 3 2 1 blank A p refl u v h i

@@ -1,18 +1,18 @@
 -- Each wrong answer goes wrong on a fresh table, so it does not meet demand 2.
+use Rattle.std.specs.Prelude.{Ok, Err, Some, None, Result, Option, Bool, true, false}
 use mathlib.Core.Path.{◌≡◌, refl, ap}
 use mathlib.Core.List.{List, [], ◌∷◌}
 use Prim.Native.Nat.{ℕ, ◌+◌, ◌*◌, ◌≤◌}
 use native.Mathlib.Omega.{arith}
 use lib.ListN.{get_or, replicate}
-use Rattle.journeys.specs.Journey.{Contact, contact}
+use Rattle.journeys.specs.declared.Contact.{Contact}
+use Rattle.journeys.specs.Journey.{contact}
 use Rattle.journeys.specs.Cell.{later, sooner, latest_departing, earliest_arriving, latest_departure, earliest_arrival, has_inside, without_containing, put_in_order, enter}
 use Rattle.journeys.specs.Adding.{departure_of, arrival_of, enter_both, add}
 use Rattle.words.specs.Layout.{is_of}
 use Rattle.words.specs.Words.{contact_of}
-use Rattle.rules.specs.declared.AskAnswer.{AskAnswer}
-use Rattle.rules.specs.declared.AskAnswer.TheVariants.{Yes, No, Refused as AskRefused}
-use Rattle.rules.specs.declared.IntervalAnswer.{IntervalAnswer}
-use Rattle.rules.specs.declared.IntervalAnswer.TheVariants.{At, Nothing, Refused as IntervalRefused}
+use Rattle.journeys.specs.declared.Interval.{Interval}
+use Rattle.rules.specs.declared.Refusal.{Refusal}
 use Rattle.rules.specs.Folds.{flat, all_below, sum_below, count_below, any_of}
 use Rattle.rules.specs.Layout.{cell_words, table_words, cell_at, cell_of, cells_of}
 use Rattle.rules.specs.Checks.{is_open, row_well_formed, rows_well_formed, all_unused, cell_well_formed, well_formed}
@@ -49,15 +49,15 @@ whole : IsWindow 2 1 2
 whole = record { from_one = omega arith; in_order = omega arith; to_last = omega arith }
 
 -- Answers as numbers.
-abbrev told : AskAnswer → ℕ
-told Yes = 1
-told No = 2
-told (AskRefused r) = 0
+abbrev told : Result Bool Refusal → ℕ
+told (Ok true) = 1
+told (Ok false) = 2
+told (Err r) = 0
 
-abbrev found : IntervalAnswer → ℕ
-found (At e) = e.departure * 10 + e.arrival
-found Nothing = 0
-found (IntervalRefused r) = 0
+abbrev found : Result (Option Interval) Refusal → ℕ
+found (Ok (Some e)) = e.departure * 10 + e.arrival
+found (Ok None) = 0
+found (Err r) = 0
 
 -- Questions that meet the demand answer on this table as document 01's do.
 module _ (E : Engine) (Q : Questions) (d : Demand2 E Q) where

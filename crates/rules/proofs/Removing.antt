@@ -1,22 +1,22 @@
 -- What is promised of the removal of a contact: which contacts remain, the table over them, and when it is refused.
-use mathlib.Core.Path.{◌≡◌, refl, sym, ap, ◌∙◌, subst}
+use Rattle.std.specs.Prelude.{Option, None, Some, Ok, Err}
+use mathlib.Core.Path.{◌≡◌, refl, sym, ◌∙◌, subst}
 use mathlib.Core.Logic.{◌↔◌, ◌≢◌}
 use mathlib.Core.Bool.{Bool, true, false, not, ◌&&◌}
-use mathlib.Core.Option.{Option, none, some}
 use mathlib.Core.List.{List, Memᴰ}
 use Prim.Native.Nat.{ℕ}
 use native.Mathlib.Omega.{arith}
 use lib.ListN.{length}
 use lib.Dec.{eqb}
 use borrow.Author.Tests.{eq-eqb}
-use Rattle.journeys.specs.Journey.{Contact, Contacts, In, Without}
+use Rattle.journeys.specs.declared.Contact.{Contact}
+use Rattle.journeys.specs.Journey.{Contacts, In, Without}
 use Rattle.journeys.specs.Adding.{cells_over}
 use Rattle.journeys.proofs.Tests.{never, untrue, Outcome, holds, fails}
 use Rattle.journeys.proofs.Theorems.{closure}
 use Rattle.rules.specs.declared.Refusal.{Refusal}
 use Rattle.rules.specs.declared.Refusal.TheVariants.{TickOutOfRange, DifferentLengths, NotHeld}
-use Rattle.rules.specs.declared.DoneAnswer.TheVariants.{Done, Refused}
-use Rattle.rules.specs.Answers.{ensure, unless, done_answer_of}
+use Rattle.rules.specs.Answers.{ensure, unless, answer_of, done}
 use Rattle.rules.specs.Folds.{within}
 use Rattle.rules.specs.Layout.{animals, ticks, carry}
 use Rattle.rules.specs.Checks.{ValidTable, ensure_table}
@@ -26,6 +26,7 @@ use Rattle.rules.specs.Logs.{held_contacts}
 use Rattle.rules.specs.Fresh.{Fresh}
 use Rattle.rules.specs.Removing.{ensure_same_length, ensure_held, remove_refusal, remaining, table_without, remove_answer, remove_leaves, remove_work}
 use Rattle.rules.specs.RemoveRule.{RemoveRule}
+use Rattle.rules.proofs.Refusals.{refused-iff, done-iff}
 use Rattle.rules.proofs.Folds.{both_iff}
 use Rattle.rules.proofs.Judged.{ensure-iff, equal-iff}
 use Rattle.rules.proofs.Groups.{Group, one-check, both-groups, table-group, pair-group, behind-valid, AheadOf, ahead_of_more, one-ahead, both-ahead, then-ahead, table-ahead, contact-ahead}
@@ -108,137 +109,128 @@ module _ (T W : List ℕ) (k : Contact) where
   held-or_not r = valid-holds T r.valid k r.legal.from_below r.legal.to_below
 
   -- Nothing is refused exactly when the table passes 5 and 6, the second has its length, and the contact is held.
-  pub remove_iff : (remove_refusal T W k ≡ none) ↔ (ValidTable T × (length T ≡ length W) × Memᴰ k (held_contacts T))
+  pub remove_iff : (remove_refusal T W k ≡ None) ↔ (ValidTable T × (length T ≡ length W) × Memᴰ k (held_contacts T))
   unfolding remove_refusal
   remove_iff = (to, of)
     where
-      to : remove_refusal T W k ≡ none → ValidTable T × (length T ≡ length W) × Memᴰ k (held_contacts T)
+      to : remove_refusal T W k ≡ None → ValidTable T × (length T ≡ length W) × Memᴰ k (held_contacts T)
       to e =
-          let r = (removal-ahead.behind none tt _).0 e in
-          (r.0.valid, r.0.same_length, (held-or_not r.0).0 ((ensure-iff (Adding.holds T k) NotHeld none).0 r.1).0)
+          let r = (removal-ahead.behind None tt _).0 e in
+          (r.0.valid, r.0.same_length, (held-or_not r.0).0 ((ensure-iff (Adding.holds T k) NotHeld None).0 r.1).0)
 
-      of : ValidTable T × (length T ≡ length W) × Memᴰ k (held_contacts T) → remove_refusal T W k ≡ none
+      of : ValidTable T × (length T ≡ length W) × Memᴰ k (held_contacts T) → remove_refusal T W k ≡ None
       of (p, l, m) =
           let r : Removable = record { valid = p; same_length = l; legal = held-legal T p k m } in
-          (removal-ahead.behind none tt _).1 (r, (ensure-iff (Adding.holds T k) NotHeld none).1 ((held-or_not r).1 m, refl))
+          (removal-ahead.behind None tt _).1 (r, (ensure-iff (Adding.holds T k) NotHeld None).1 ((held-or_not r).1 m, refl))
 
 -- ---- what is answered
 
--- A removal answers that it is done exactly when nothing is refused, and a refusal exactly when that is refused.
-pub done_none : (o : Option Refusal) → (done_answer_of o Done ≡ Done) ↔ (o ≡ none)
-done_none none = (λ e. refl, λ e. refl)
-done_none (some r) = (λ e. never cc, λ e. never cc)
-
-pub done_refused : (o : Option Refusal) (r : Refusal) → (done_answer_of o Done ≡ Refused r) ↔ (o ≡ some r)
-done_refused none r = (λ e. never cc, λ e. never cc)
-done_refused (some s) r = (λ e. let z : s ≡ r = cc in ap some z, λ e. let z : s ≡ r = cc in ap Refused z)
-
 -- A check refuses with its number exactly when it fails, where those behind it have other numbers.
-check_iff : {P : Type 0} (b : Bool) (r : Refusal) (o : Option Refusal) → (b ≡ true) ↔ P → o ≢ some r → (ensure b r o ≡ some r) ↔ (¬ P)
+check_iff : {P : Type 0} (b : Bool) (r : Refusal) (o : Option Refusal) → (b ≡ true) ↔ P → o ≢ Some r → (ensure b r o ≡ Some r) ↔ (¬ P)
 check_iff true r o w d = (λ e. absurd (d e), λ n. absurd (n (w.0 refl)))
 check_iff false r o w d = (λ e p. untrue (w.1 p), λ n. refl)
 
 module _ (T W : List ℕ) (k : Contact) where
-  table_judged : (r : Refusal) → ensure_table T none ≡ some r → remove_answer T W k ≡ Refused r
+  table_judged : (r : Refusal) → ensure_table T None ≡ Some r → remove_answer T W k ≡ Err r
   unfolding remove_answer remove_refusal
-  table_judged r e = rw ((table-group T).refuses r e (ensure_same_length T W (ensure_pair T k.from k.to (ensure_tick T k.tick (ensure_held T k none))))) refl
+  table_judged r e = rw ((table-group T).refuses r e (ensure_same_length T W (ensure_pair T k.from k.to (ensure_tick T k.tick (ensure_held T k None))))) refl
 
   -- The checks behind 20 give other numbers.
-  behind-twenty : ensure_pair T k.from k.to (ensure_tick T k.tick (ensure_held T k none)) ≢ some DifferentLengths
-  behind-twenty e = go (Adding.holds T k) (((contact-ahead T k).behind (some DifferentLengths) (omega arith) (ensure_held T k none)).0 e).1
+  behind-twenty : ensure_pair T k.from k.to (ensure_tick T k.tick (ensure_held T k None)) ≢ Some DifferentLengths
+  behind-twenty e = go (Adding.holds T k) (((contact-ahead T k).behind (Some DifferentLengths) (omega arith) (ensure_held T k None)).0 e).1
     where
-      go : (b : Bool) → ensure b NotHeld none ≡ some DifferentLengths → ⊥
+      go : (b : Bool) → ensure b NotHeld None ≡ Some DifferentLengths → ⊥
       go true q = never cc
       go false q = never cc
 
-  lengths_differ : (remove_answer T W k ≡ Refused DifferentLengths) ↔ (ValidTable T × (length T ≢ length W))
+  lengths_differ : (remove_answer T W k ≡ Err DifferentLengths) ↔ (ValidTable T × (length T ≢ length W))
   unfolding remove_answer remove_refusal
   lengths_differ =
-      let a = done_refused (remove_refusal T W k) DifferentLengths in
-      let b = (table-ahead T).behind (some DifferentLengths) (omega arith) _ in
+      let a = refused-iff (remove_refusal T W k) tt DifferentLengths in
+      let b = (table-ahead T).behind (Some DifferentLengths) (omega arith) _ in
       let c = check_iff (eqb (length T) (length W)) DifferentLengths _ (equal-iff (length T) (length W)) behind-twenty in
       (λ e. let x = b.0 (a.0 e) in (x.0, c.0 x.1), λ h. a.1 (b.1 (h.0, c.1 h.1)))
 
-  as_an_add : (r : Refusal) → ValidTable T → length T ≡ length W → r ≢ NotHeld → (remove_answer T W k ≡ Refused r) ↔ (add_refusal T k ≡ some r)
+  as_an_add : (r : Refusal) → ValidTable T → length T ≡ length W → r ≢ NotHeld → (remove_answer T W k ≡ Err r) ↔ (add_refusal T k ≡ Some r)
   unfolding remove_answer remove_refusal add_refusal
   as_an_add r p l d = (
-    λ e. behind-valid T p _ ∙ to (ensure_pair T k.from k.to (ensure_tick T k.tick none)) refl (sym behind ∙ a.0 e),
-    λ e. a.1 (behind ∙ g.refuses r (sym (behind-valid T p _) ∙ e) (ensure_held T k none)),
+    λ e. behind-valid T p _ ∙ to (ensure_pair T k.from k.to (ensure_tick T k.tick None)) refl (sym behind ∙ a.0 e),
+    λ e. a.1 (behind ∙ g.refuses r (sym (behind-valid T p _) ∙ e) (ensure_held T k None)),
   )
     where
-      a : (done_answer_of (remove_refusal T W k) Done ≡ Refused r) ↔ (remove_refusal T W k ≡ some r)
-      a = done_refused (remove_refusal T W k) r
+      a : (answer_of (remove_refusal T W k) done ≡ Err r) ↔ (remove_refusal T W k ≡ Some r)
+      a = refused-iff (remove_refusal T W k) tt r
 
       -- The checks of the contact, without 21.
       g : Group (λ o. ensure_pair T k.from k.to (ensure_tick T k.tick o))
       g = both-groups (pair-group T k.from k.to) (one-check (within 1 k.tick (ticks T)) TickOutOfRange)
 
-      behind : remove_refusal T W k ≡ ensure_pair T k.from k.to (ensure_tick T k.tick (ensure_held T k none))
+      behind : remove_refusal T W k ≡ ensure_pair T k.from k.to (ensure_tick T k.tick (ensure_held T k None))
       behind = behind-valid T p _ ∙ rw (eq-eqb (length T) (length W) l) refl
 
-      not-21 : (b : Bool) → ensure b NotHeld none ≡ some r → ⊥
+      not-21 : (b : Bool) → ensure b NotHeld None ≡ Some r → ⊥
       not-21 true e = never cc
       not-21 false e = d (let q : NotHeld ≡ r = cc in sym q)
 
-      to : (o : Option Refusal) → ensure_pair T k.from k.to (ensure_tick T k.tick none) ≡ o
-          → ensure_pair T k.from k.to (ensure_tick T k.tick (ensure_held T k none)) ≡ some r → o ≡ some r
-      to none e q = absurd (not-21 (Adding.holds T k) (sym (g.passes e _) ∙ q))
-      to (some s) e q = sym (g.refuses s e _) ∙ q
+      to : (o : Option Refusal) → ensure_pair T k.from k.to (ensure_tick T k.tick None) ≡ o
+          → ensure_pair T k.from k.to (ensure_tick T k.tick (ensure_held T k None)) ≡ Some r → o ≡ Some r
+      to None e q = absurd (not-21 (Adding.holds T k) (sym (g.passes e _) ∙ q))
+      to (Some s) e q = sym (g.refuses s e _) ∙ q
 
-  not_held_lem : (remove_answer T W k ≡ Refused NotHeld) ↔ (ValidTable T × (length T ≡ length W) × Legal (animals T) (ticks T) k × (¬ Memᴰ k (held_contacts T)))
+  not_held_lem : (remove_answer T W k ≡ Err NotHeld) ↔ (ValidTable T × (length T ≡ length W) × Legal (animals T) (ticks T) k × (¬ Memᴰ k (held_contacts T)))
   unfolding remove_answer remove_refusal
   not_held_lem = (to, of)
     where
-      a : (done_answer_of (remove_refusal T W k) Done ≡ Refused NotHeld) ↔ (remove_refusal T W k ≡ some NotHeld)
-      a = done_refused (remove_refusal T W k) NotHeld
+      a : (answer_of (remove_refusal T W k) done ≡ Err NotHeld) ↔ (remove_refusal T W k ≡ Some NotHeld)
+      a = refused-iff (remove_refusal T W k) tt NotHeld
 
-      c : Removable T W k → (ensure_held T k none ≡ some NotHeld) ↔ (¬ Memᴰ k (held_contacts T))
-      c r = check_iff (Adding.holds T k) NotHeld none (held-or_not T W k r) (λ e. never cc)
+      c : Removable T W k → (ensure_held T k None ≡ Some NotHeld) ↔ (¬ Memᴰ k (held_contacts T))
+      c r = check_iff (Adding.holds T k) NotHeld None (held-or_not T W k r) (λ e. never cc)
 
-      to : remove_answer T W k ≡ Refused NotHeld → ValidTable T × (length T ≡ length W) × Legal (animals T) (ticks T) k × (¬ Memᴰ k (held_contacts T))
+      to : remove_answer T W k ≡ Err NotHeld → ValidTable T × (length T ≡ length W) × Legal (animals T) (ticks T) k × (¬ Memᴰ k (held_contacts T))
       to e =
-          let x = ((removal-ahead T W k).behind (some NotHeld) (omega arith) _).0 (a.0 e) in
+          let x = ((removal-ahead T W k).behind (Some NotHeld) (omega arith) _).0 (a.0 e) in
           (x.0.valid, x.0.same_length, x.0.legal, (c x.0).0 x.1)
 
-      of : ValidTable T × (length T ≡ length W) × Legal (animals T) (ticks T) k × (¬ Memᴰ k (held_contacts T)) → remove_answer T W k ≡ Refused NotHeld
+      of : ValidTable T × (length T ≡ length W) × Legal (animals T) (ticks T) k × (¬ Memᴰ k (held_contacts T)) → remove_answer T W k ≡ Err NotHeld
       of (p, l, h, d) =
           let r : Removable T W k = record { valid = p; same_length = l; legal = h } in
-          a.1 (((removal-ahead T W k).behind (some NotHeld) (omega arith) _).1 (r, (c r).1 d))
+          a.1 (((removal-ahead T W k).behind (Some NotHeld) (omega arith) _).1 (r, (c r).1 d))
 
-  pub done_exactly : (remove_answer T W k ≡ Done) ↔ (ValidTable T × (length T ≡ length W) × Memᴰ k (held_contacts T))
+  pub done_exactly : (remove_answer T W k ≡ Ok tt) ↔ (ValidTable T × (length T ≡ length W) × Memᴰ k (held_contacts T))
   unfolding remove_answer
-  done_exactly = let a = done_none (remove_refusal T W k) in let b = remove_iff T W k in (λ e. b.0 (a.0 e), λ h. a.1 (b.1 h))
+  done_exactly = let a = done-iff (remove_refusal T W k) in let b = remove_iff T W k in (λ e. b.0 (a.0 e), λ h. a.1 (b.1 h))
 
   -- ---- what is left
 
   -- By cases: refused and as it was, or done and both tables without the contact.
-  pub remove_cases : (P : Option Refusal → List ℕ → List ℕ → Type 0) → ((r : Refusal) → remove_refusal T W k ≡ some r → P (some r) T W)
-      → (remove_refusal T W k ≡ none → P none (table_without T k) (table_without T k)) → P (remove_refusal T W k) (remove_leaves T W k) (remove_work T W k)
+  pub remove_cases : (P : Option Refusal → List ℕ → List ℕ → Type 0) → ((r : Refusal) → remove_refusal T W k ≡ Some r → P (Some r) T W)
+      → (remove_refusal T W k ≡ None → P None (table_without T k) (table_without T k)) → P (remove_refusal T W k) (remove_leaves T W k) (remove_work T W k)
   unfolding remove_leaves remove_work
   remove_cases P a b = go (remove_refusal T W k) refl
     where
       go : (o : Option Refusal) → remove_refusal T W k ≡ o → P o (unless o (table_without T k) T) (unless o (table_without T k) W)
-      go none e = b e
-      go (some r) e = a r e
+      go None e = b e
+      go (Some r) e = a r e
 
   -- A removal that is refused leaves the first table as it was.
-  pub refused-kept : (r : Refusal) → remove_refusal T W k ≡ some r → remove_leaves T W k ≡ T
-  refused-kept r = remove_cases (λ o L M. o ≡ some r → L ≡ T) (λ s e q. refl) (λ e q. never cc)
+  pub refused-kept : (r : Refusal) → remove_refusal T W k ≡ Some r → remove_leaves T W k ≡ T
+  refused-kept r = remove_cases (λ o L M. o ≡ Some r → L ≡ T) (λ s e q. refl) (λ e q. never cc)
 
   -- A removal that is done leaves the closure of the single-contact intervals left,
-  pub closed : remove_answer T W k ≡ Done → Fresh (animals T) (ticks T) (carry T) (Without (In (held_contacts T)) k) (remove_leaves T W k)
+  pub closed : remove_answer T W k ≡ Ok tt → Fresh (animals T) (ticks T) (carry T) (Without (In (held_contacts T)) k) (remove_leaves T W k)
   unfolding remove_answer
   closed =
-      remove_cases (λ o L M. done_answer_of o Done ≡ Done → Fresh (animals T) (ticks T) (carry T) (Without (In (held_contacts T)) k) L) (λ r e q. never cc)
+      remove_cases (λ o L M. answer_of o done ≡ done → Fresh (animals T) (ticks T) (carry T) (Without (In (held_contacts T)) k) L) (λ r e q. never cc)
       (λ e q. fresh-map (without-fresh T ((remove_iff T W k).0 e).0 k) (remaining-iff T k))
 
   -- in both tables.
-  pub same_words : remove_answer T W k ≡ Done → remove_work T W k ≡ remove_leaves T W k
+  pub same_words : remove_answer T W k ≡ Ok tt → remove_work T W k ≡ remove_leaves T W k
   unfolding remove_answer
-  same_words = remove_cases (λ o L M. done_answer_of o Done ≡ Done → M ≡ L) (λ r e q. never cc) (λ e q. refl)
+  same_words = remove_cases (λ o L M. answer_of o done ≡ done → M ≡ L) (λ r e q. never cc) (λ e q. refl)
 
 -- On a fresh table these are the contacts of its set, but for this one.
-pub smaller : {n τ δ : ℕ} {S : Contacts} {T : List ℕ} → Fresh n τ δ S T → (W : List ℕ) (k : Contact) → remove_answer T W k ≡ Done → Fresh n τ δ (Without S k) (remove_leaves T W k)
+pub smaller : {n τ δ : ℕ} {S : Contacts} {T : List ℕ} → Fresh n τ δ S T → (W : List ℕ) (k : Contact) → remove_answer T W k ≡ Ok tt → Fresh n τ δ (Without S k) (remove_leaves T W k)
 smaller f W k e =
     fresh-map (rw (fresh-animals f, fresh-ticks f, fresh-carry f) at (closed _ W k e)) (λ c. let h = fresh-held f c in (λ m. (h.0 m.0, m.1), λ m. (h.1 m.0, m.1)))
 
@@ -264,12 +256,12 @@ remove_rule =
 -- ---- demand 1
 
 module _ (T W : List ℕ) (k : Contact) where
-  pub remove_kept : (r : Refusal) → remove_answer T W k ≡ Refused r → (remove_leaves T W k ≡ T) × (remove_work T W k ≡ W)
+  pub remove_kept : (r : Refusal) → remove_answer T W k ≡ Err r → (remove_leaves T W k ≡ T) × (remove_work T W k ≡ W)
   unfolding remove_answer
-  remove_kept r = remove_cases T W k (λ o L M. done_answer_of o Done ≡ Refused r → (L ≡ T) × (M ≡ W)) (λ s e q. (refl, refl)) (λ e q. never cc)
+  remove_kept r = remove_cases T W k (λ o L M. answer_of o done ≡ Err r → (L ≡ T) × (M ≡ W)) (λ s e q. (refl, refl)) (λ e q. never cc)
 
   -- The table without the contact has the first's length, and so the second's.
-  without-length : remove_refusal T W k ≡ none → (length (table_without T k) ≡ length T) × (length (table_without T k) ≡ length W)
+  without-length : remove_refusal T W k ≡ None → (length (table_without T k) ≡ length T) × (length (table_without T k) ≡ length W)
   without-length e =
       let h = (remove_iff T W k).0 e in
       let l = fresh-length (without-fresh T h.0 k) ∙ sym (opens-length T h.0.opens) in
@@ -281,5 +273,5 @@ module _ (T W : List ℕ) (k : Contact) where
   pub remove_valid : ValidTable T → ValidTable (remove_leaves T W k)
   remove_valid p = remove_cases T W k (λ o L M. ValidTable L) (λ r e. p) (λ e. fresh-passes (without-fresh T p k))
 
-  pub remove_both_valid : remove_answer T W k ≡ Done → ValidTable (remove_leaves T W k) × ValidTable (remove_work T W k)
+  pub remove_both_valid : remove_answer T W k ≡ Ok tt → ValidTable (remove_leaves T W k) × ValidTable (remove_work T W k)
   remove_both_valid e = let p = fresh-passes (closed T W k e) in (p, subst ValidTable (sym (same_words T W k e)) p)

@@ -1,13 +1,14 @@
 -- A list of adds keeps the table fresh over the legal contacts so far, and a list of adds and removals over the set that it leaves.
+use Rattle.std.specs.Prelude.{Option, None, Some}
 use mathlib.Core.Logic.{◌↔◌, inl, inr, ⊎_elim}
 use mathlib.Core.Path.{◌≡◌, refl, sym, ◌∙◌, subst}
-use mathlib.Core.Option.{Option, none, some}
 use mathlib.Core.List.Memᴰ
 use mathlib.Core.List.{List, [], ◌∷◌}
 use Prim.Native.Nat.{ℕ}
 use native.Mathlib.Omega.{arith}
 use lib.ListN.{length}
-use Rattle.journeys.specs.Journey.{Contact, Contacts, Union}
+use Rattle.journeys.specs.declared.Contact.{Contact}
+use Rattle.journeys.specs.Journey.{Contacts, Union}
 use Rattle.journeys.specs.Adding.{add_all}
 use Rattle.journeys.proofs.Theorems.{add_all-cells, cells-map}
 use Rattle.rules.specs.declared.Refusal.{Refusal}
@@ -40,7 +41,7 @@ run-union {n} {τ} {δ} A {S} {T} f =
     r = run-laid A (fresh-laid f)
 
 -- From an opening, a list of adds leaves the fresh table over its legal contacts.
-pub run-fresh : (n τ δ : ℕ) (words : List ℕ) (A : List Contact) → open_refusal n τ δ words ≡ none → Fresh n τ δ (LegalOf n τ A) (run engine (open_leaves n τ δ words) A)
+pub run-fresh : (n τ δ : ℕ) (words : List ℕ) (A : List Contact) → open_refusal n τ δ words ≡ None → Fresh n τ δ (LegalOf n τ A) (run engine (open_leaves n τ δ words) A)
 run-fresh n τ δ words A e = fresh-map (run-union A (open_fresh n τ δ words e)) (λ k. (⊎_elim (λ b. absurd b) (λ h. h), inr))
 
 -- ---- lists of adds and removals
@@ -57,7 +58,7 @@ module _ {n τ δ : ℕ} {S : Contacts} {T : List ℕ} (f : Fresh n τ δ S T) w
       ))
 
   -- A removal is refused nothing exactly when its contact is in the set and the second table has the first's length.
-  pub removal-accepted : (k : Contact) (W : List ℕ) → (remove_refusal T W k ≡ none) ↔ (S k × (length W ≡ table_length n τ))
+  pub removal-accepted : (k : Contact) (W : List ℕ) → (remove_refusal T W k ≡ None) ↔ (S k × (length W ≡ table_length n τ))
   removal-accepted k W =
       let i = remove_iff T W k in
       let l = fresh-length f in
@@ -68,10 +69,10 @@ module _ {n τ δ : ℕ} {S : Contacts} {T : List ℕ} (f : Fresh n τ δ S T) w
   remove_after k W = go (remove_refusal T W k) refl
     where
       go : (o : Option Refusal) → remove_refusal T W k ≡ o → Fresh n τ δ (TakenOut n τ S k W) (remove_leaves T W k)
-      go none e =
+      go None e =
           let l = ((removal-accepted k W).0 e).1 in
           fresh-map (smaller f W k ((done_exactly T W k).1 ((remove_iff T W k).0 e))) (λ c. (λ h. (h.0, λ q. h.1 q.0), λ h. (h.0, λ q. h.1 (q, omega (arith, l)))))
-      go (some r) e =
+      go (Some r) e =
           subst (Fresh n τ δ (TakenOut n τ S k W)) (sym (refused-kept T W k r e))
           (fresh-map f (λ c. (λ s. (s, λ h. none-some (remove_refusal T W k) r ((removal-accepted k W).1 (subst S h.0 s, omega (arith, h.1))) e), λ h. h.0)))
 
@@ -87,5 +88,5 @@ list-fresh [] f = f
 list-fresh (c ∷ A) f = list-fresh A (call-fresh f c)
 
 -- From an opening, a list of calls leaves the fresh table over the set that it leaves.
-pub left-fresh : (n τ δ : ℕ) (words : List ℕ) (A : List Call) → open_refusal n τ δ words ≡ none → Fresh n τ δ (SetLeft n τ A) (table_after engine n τ δ words A)
+pub left-fresh : (n τ δ : ℕ) (words : List ℕ) (A : List Call) → open_refusal n τ δ words ≡ None → Fresh n τ δ (SetLeft n τ A) (table_after engine n τ δ words A)
 left-fresh n τ δ words A e = list-fresh A (open_fresh n τ δ words e)

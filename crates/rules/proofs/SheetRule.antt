@@ -1,4 +1,5 @@
 -- The printing program prints as its limits say, on each side of each.
+use Rattle.std.specs.Prelude.{Err}
 use Prim.Native.Nat.{ℕ, ◌%◌, ◌≤◌, ◌<◌}
 use mathlib.Core.Path.{◌≡◌, refl, sym, ap, ap₂, ◌∙◌}
 use mathlib.Core.Logic.{◌⊎◌, ◌≢◌, ⊎_elim}
@@ -7,13 +8,13 @@ use mathlib.Core.List.{List}
 use lib.ListN.{length, get_or}
 use lib.Dec.{leb}
 use borrow.Author.Tests.{eq-eqb, ne_eqb, le-leb, lt-leb, lt-ltb, le-ltb}
-use Rattle.journeys.specs.Journey.{Contact, In}
+use Rattle.journeys.specs.declared.Contact.{Contact}
+use Rattle.journeys.specs.Journey.{In}
 use Rattle.words.specs.Layout.{is_of}
 use Rattle.words.specs.Words.{opening_layout, animals_of, ticks_of}
 use Rattle.words.proofs.Packed.{opening_word-is}
 use Rattle.rules.specs.declared.Refusal.{Refusal}
 use Rattle.rules.specs.declared.Refusal.TheVariants.{NotALog}
-use Rattle.rules.specs.declared.ReadAnswer.TheVariants.{Refused}
 use Rattle.rules.specs.Answers.{number_of}
 use Rattle.rules.specs.Layout.{table_length, animals, ticks}
 use Rattle.rules.specs.Opening.{Sizes}
@@ -80,12 +81,12 @@ module _ {n τ δ : ℕ} {B : List ℕ} (o : OpensWith n τ δ B) where
 -- ---- reading
 
 -- Reading asks the table for its length alone.
-refused-alike : (L T U : List ℕ) → length T ≡ length U → (r : Refusal) → read_answer L T ≡ Refused r → read_answer L U ≡ Refused r
+refused-alike : (L T U : List ℕ) → length T ≡ length U → (r : Refusal) → read_answer L T ≡ Err r → read_answer L U ≡ Err r
 unfolding read_answer read_refusal
 refused-alike L T U e r h = rw e at h
 
 -- What reading refuses is printed with its number.
-refused-text : (L : List ℕ) (r : Refusal) → read_answer L (zeros (animals L) (ticks L)) ≡ Refused r → log_text L ≡ refused_text (number_of r)
+refused-text : (L : List ℕ) (r : Refusal) → read_answer L (zeros (animals L) (ticks L)) ≡ Err r → log_text L ≡ refused_text (number_of r)
 unfolding log_text
 refused-text L r e = ap (λ a. read_text a (read_leaves L (zeros (animals L) (ticks L)))) e
 
@@ -95,7 +96,7 @@ no_opening B w e =
     whole-sheet B w false (rw e refl) ∙ refused-text (words_of B) NotALog (rw (e, and-false (leb 2 (length (words_of B)))) refl)
 
 refused : (n τ δ : ℕ) (B : List ℕ) → WholeWords B → OpensWith n τ δ B → n ≤ 8 → τ ≤ 64 → (T : List ℕ) → length T ≡ table_length n τ
-    → (r : Refusal) → read_answer (words_of B) T ≡ Refused r → sheet_text B ≡ refused_text (number_of r)
+    → (r : Refusal) → read_answer (words_of B) T ≡ Err r → sheet_text B ≡ refused_text (number_of r)
 refused n τ δ B w o h k T e r a =
     whole-sheet B w false (not_beyond o h k)
     ∙ refused-text (words_of B) r

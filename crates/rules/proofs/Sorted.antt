@@ -7,7 +7,7 @@ use mathlib.Core.List.{List, [], ◌∷◌, ◌++◌, Memᴰ}
 use Prim.Native.Nat.{ℕ, zero, suc, ◌<◌}
 use native.Mathlib.Omega.{arith}
 use Rattle.rules.specs.Folds.{flat}
-use Rattle.journeys.specs.Journey.{Contact}
+use Rattle.journeys.specs.declared.Contact.{Contact}
 use Rattle.rules.specs.Orders.{BeforeHead, Sorted, Earlier, Pair, Lower}
 use Rattle.rules.proofs.Folds.{member-flat}
 use Rattle.rules.proofs.Distinct.{Once}

@@ -10,7 +10,8 @@ use lib.ListN.{length, get_or, take, drop, replicate, length-map, length-drop, t
 use lib.Seq.{drop-drop, length-take-le}
 use lib.Dec.{ltb, leb, eqb}
 use borrow.Author.Tests.{eq-eqb, eqb-true, leb-true, ltb-true}
-use Rattle.journeys.specs.Journey.{Interval, interval}
+use Rattle.journeys.specs.declared.Interval.{Interval}
+use Rattle.journeys.specs.Journey.{interval}
 use Rattle.journeys.specs.Cell.{Cell, Rising, Limits, WellFormedCell}
 use Rattle.words.specs.Layout.{get, is_of}
 use Rattle.words.specs.Words.{opening_layout, opening_word, count_layout, count_word, rows_field, interval_layout, interval_word, interval_of, departure_field, arrival_field, unused_layout, unused_word}

@@ -1,8 +1,8 @@
 -- What is promised of a list of stays.
+use Rattle.std.specs.Prelude.{Option, None, Some, Ok, Err}
 use mathlib.Core.Path.{◌≡◌, refl, sym, ap, ◌∙◌, subst}
 use mathlib.Core.Logic.{◌↔◌, ◌⊎◌, inl, inr, ⊎_elim, ◌≢◌}
 use mathlib.Core.Bool.{Bool, true, false, ◌&&◌}
-use mathlib.Core.Option.{Option, none, some}
 use mathlib.Core.List.Memᴰ
 use mathlib.Core.List.{List, [], ◌∷◌, ◌++◌, Memᴰ}
 use Prim.Native.Nat.{ℕ, zero, suc, ◌+◌, ◌*◌, ◌/◌, ◌%◌, ◌<◌}
@@ -10,14 +10,14 @@ use native.Mathlib.Omega.{arith}
 use lib.ListN.{length}
 use lib.Dec.{eqb}
 use borrow.Author.Tests.{eqb-true, eqb-false, eq-eqb}
-use Rattle.journeys.specs.Journey.{Contact, contact, Contacts, In, Union, Same}
-use Rattle.journeys.proofs.Tests.{never, untrue}
+use Rattle.journeys.specs.declared.Contact.{Contact}
+use Rattle.journeys.specs.Journey.{contact, Contacts, In, Union, Same}
+use Rattle.journeys.proofs.Tests.{untrue}
 use Rattle.rules.specs.declared.Refusal.{Refusal}
 use Rattle.rules.specs.declared.Refusal.TheVariants.{IllegalStay}
 use Rattle.rules.specs.declared.Stay.{Stay}
-use Rattle.rules.specs.declared.StaysAnswer.TheVariants.{Added, Refused}
 use Rattle.rules.specs.Limits.{max_contacts, max_pen}
-use Rattle.rules.specs.Answers.{ensure, unless, stays_answer_of}
+use Rattle.rules.specs.Answers.{ensure, answer_of}
 use Rattle.rules.specs.Folds.{flat, any_of}
 use Rattle.rules.specs.Layout.{animals, ticks}
 use Rattle.rules.specs.Checks.{ValidTable, ensure_table}
@@ -28,6 +28,7 @@ use Rattle.rules.specs.Orders.{Sorted, Earlier}
 use Rattle.rules.specs.CallLists.{engine, run, new_adds, LegalOf}
 use Rattle.rules.specs.Stays.{stay_at, stays_of, is_whole, is_stay, ensure_each, ensure_stays, stays_refusal, is_there, meet, met, stay_contacts, stays_answer, stays_leaves}
 use Rattle.rules.specs.StayRule.{IsStay, AreStays, FirstIllegal, stay_words, There, Met, StaysCount, StayRule}
+use Rattle.rules.proofs.Refusals.{refused-iff, given-iff, refused-kept}
 use Rattle.rules.proofs.Folds.{both_iff, any_iff, flat-same}
 use Rattle.rules.proofs.Judged.{none-some, ensure-iff, below-iff, most-iff, equal-iff, differ-iff, within-iff}
 use Rattle.rules.proofs.Asked.{valid-behind}
@@ -215,7 +216,7 @@ stay-iff n τ s =
       λ h. w.1 ((((h.animal_below, h.pen_within), h.first_within), h.last_within), h.in_order),
     )
 
-each-iff : (n τ : ℕ) (l : List Stay) (o : Option Refusal) → (ensure_each n τ l o ≡ none) ↔ (((s : Stay) → Memᴰ s l → IsStay n τ s) × (o ≡ none))
+each-iff : (n τ : ℕ) (l : List Stay) (o : Option Refusal) → (ensure_each n τ l o ≡ None) ↔ (((s : Stay) → Memᴰ s l → IsStay n τ s) × (o ≡ None))
 unfolding ensure_each
 each-iff n τ [] o = (λ e. (λ s m. absurd (Memᴰ.not-nil m), e), λ h. h.1)
 each-iff n τ (r ∷ l) o =
@@ -229,25 +230,25 @@ each-iff n τ (r ∷ l) o =
     )
 
 -- Behind 5 and 6 nothing is refused exactly when the words are stays, and else 18.
-are-iff : (T W : List ℕ) → (ensure_stays T W none ≡ none) ↔ AreStays (animals T) (ticks T) W
+are-iff : (T W : List ℕ) → (ensure_stays T W None ≡ None) ↔ AreStays (animals T) (ticks T) W
 are-iff T W = (
   λ e.
       let a = (each-iff (animals T) (ticks T) (stays_of W) _).0 e in
-      record { whole = eqb-true (length W % 4) 0 ((ensure-iff (is_whole W) IllegalStay none).0 a.1).0; each = a.0 },
-  λ s. (each-iff (animals T) (ticks T) (stays_of W) _).1 (s.each, (ensure-iff (is_whole W) IllegalStay none).1 (eq-eqb (length W % 4) 0 s.whole, refl)),
+      record { whole = eqb-true (length W % 4) 0 ((ensure-iff (is_whole W) IllegalStay None).0 a.1).0; each = a.0 },
+  λ s. (each-iff (animals T) (ticks T) (stays_of W) _).1 (s.each, (ensure-iff (is_whole W) IllegalStay None).1 (eq-eqb (length W % 4) 0 s.whole, refl)),
 )
 
-one-eighteen : (b : Bool) {o : Option Refusal} {r : Refusal} → (o ≡ some r → r ≡ IllegalStay) → ensure b IllegalStay o ≡ some r → r ≡ IllegalStay
+one-eighteen : (b : Bool) {o : Option Refusal} {r : Refusal} → (o ≡ Some r → r ≡ IllegalStay) → ensure b IllegalStay o ≡ Some r → r ≡ IllegalStay
 one-eighteen true f e = f e
 one-eighteen false f e = cc
 
-each-eighteen : (n τ : ℕ) (l : List Stay) {o : Option Refusal} {r : Refusal} → (o ≡ some r → r ≡ IllegalStay) → ensure_each n τ l o ≡ some r → r ≡ IllegalStay
+each-eighteen : (n τ : ℕ) (l : List Stay) {o : Option Refusal} {r : Refusal} → (o ≡ Some r → r ≡ IllegalStay) → ensure_each n τ l o ≡ Some r → r ≡ IllegalStay
 unfolding ensure_each
 each-eighteen n τ [] f e = f e
 each-eighteen n τ (s ∷ l) f e = one-eighteen (is_stay n τ s) (each-eighteen n τ l f) e
 
 -- The first record that is refused, or what the checks behind the records refuse.
-each_first : (n τ : ℕ) (l : List Stay) {o : Option Refusal} {r : Refusal} → ensure_each n τ l o ≡ some r → FirstIllegal n τ l ⊎ (o ≡ some r)
+each_first : (n τ : ℕ) (l : List Stay) {o : Option Refusal} {r : Refusal} → ensure_each n τ l o ≡ Some r → FirstIllegal n τ l ⊎ (o ≡ Some r)
 unfolding ensure_each
 each_first n τ [] e = inr e
 each_first n τ (s ∷ l) {o} {r} e = go (is_stay n τ s) refl e (each_first n τ l)
@@ -266,15 +267,15 @@ each_first n τ (s ∷ l) {o} {r} e = go (is_stay n τ s) refl e (each_first n �
     here : ¬ IsStay n τ s → FirstIllegal n τ (s ∷ l)
     here d = record { before = []; illegal = s; behind = l; split = refl; stays = λ q m. absurd (Memᴰ.not-nil m); no_stay = d }
 
-    go : (b : Bool) → is_stay n τ s ≡ b → ensure b IllegalStay (ensure_each n τ l o) ≡ some r → (ensure_each n τ l o ≡ some r → FirstIllegal n τ l ⊎ (o ≡ some r)) → FirstIllegal n τ (s ∷ l) ⊎ (o ≡ some r)
+    go : (b : Bool) → is_stay n τ s ≡ b → ensure b IllegalStay (ensure_each n τ l o) ≡ Some r → (ensure_each n τ l o ≡ Some r → FirstIllegal n τ l ⊎ (o ≡ Some r)) → FirstIllegal n τ (s ∷ l) ⊎ (o ≡ Some r)
     go true f h k = ⊎_elim (λ q. inl (later ((stay-iff n τ s).0 f) q)) inr (k h)
     go false f h k = inl (here (λ q. untrue (sym f ∙ (stay-iff n τ s).1 q)))
 
 -- The records are refused with 18 or not at all.
-eighteen : (T W : List ℕ) (r : Refusal) → ensure_stays T W none ≡ some r → r ≡ IllegalStay
+eighteen : (T W : List ℕ) (r : Refusal) → ensure_stays T W None ≡ Some r → r ≡ IllegalStay
 eighteen T W r = each-eighteen (animals T) (ticks T) (stays_of W) (one-eighteen (is_whole W) none-is_not_some)
 
-pub stays-iff : (T W : List ℕ) → (stays_refusal T W ≡ none) ↔ (ValidTable T × AreStays (animals T) (ticks T) W)
+pub stays-iff : (T W : List ℕ) → (stays_refusal T W ≡ None) ↔ (ValidTable T × AreStays (animals T) (ticks T) W)
 unfolding stays_refusal
 stays-iff T W = (
   λ e. let a = valid-behind T e in (a.0, (are-iff T W).0 a.1),
@@ -283,44 +284,40 @@ stays-iff T W = (
 
 -- ---- what is answered
 
-table_judged : (T W : List ℕ) (r : Refusal) → ensure_table T none ≡ some r → stays_answer T W ≡ Refused r
+table_judged : (T W : List ℕ) (r : Refusal) → ensure_table T None ≡ Some r → stays_answer T W ≡ Err r
 unfolding stays_answer stays_refusal
-table_judged T W r e = rw ((table-group T).refuses r e (ensure_stays T W none)) refl
+table_judged T W r e = rw ((table-group T).refuses r e (ensure_stays T W None)) refl
 
 module _ (T W : List ℕ) where
   -- Where the words are no stays, a record is the first that is none, or the last is incomplete.
   abbrev Illegal : Type 0
   Illegal = FirstIllegal (animals T) (ticks T) (stays_of W) ⊎ (length W % 4 ≢ 0)
 
-  refused_exactly : (stays_answer T W ≡ Refused IllegalStay) ↔ (ValidTable T × Illegal)
+  refused_exactly : (stays_answer T W ≡ Err IllegalStay) ↔ (ValidTable T × Illegal)
   unfolding stays_answer stays_refusal
   refused_exactly = (to, of)
     where
-      refused : (o : Option Refusal) → stays_answer_of o (Added (new_adds engine T (stay_contacts T W))) ≡ Refused IllegalStay → o ≡ some IllegalStay
-      refused none e = never cc
-      refused (some r) e = let q : r ≡ IllegalStay = cc in ap some q
-
-      incomplete : (b : Bool) → is_whole W ≡ b → ensure b IllegalStay none ≡ some IllegalStay → length W % 4 ≢ 0
+      incomplete : (b : Bool) → is_whole W ≡ b → ensure b IllegalStay None ≡ Some IllegalStay → length W % 4 ≢ 0
       incomplete true f e = none-is_not_some e
       incomplete false f e = eqb-false (length W % 4) 0 f
 
-      to : stays_answer_of (ensure_table T (ensure_stays T W none)) (Added (new_adds engine T (stay_contacts T W))) ≡ Refused IllegalStay → ValidTable T × Illegal
+      to : answer_of (ensure_table T (ensure_stays T W None)) (Ok (new_adds engine T (stay_contacts T W))) ≡ Err IllegalStay → ValidTable T × Illegal
       to e =
-          let a = ((table-ahead T).behind (some IllegalStay) (omega arith) (ensure_stays T W none)).0 (refused _ e) in
+          let a = ((table-ahead T).behind (Some IllegalStay) (omega arith) (ensure_stays T W None)).0 ((refused-iff _ _ IllegalStay).0 e) in
           (a.0, ⊎_elim inl (λ z. inr (incomplete (is_whole W) refl z)) (each_first (animals T) (ticks T) (stays_of W) a.1))
 
       no_stays : Illegal → ¬ AreStays (animals T) (ticks T) W
       no_stays (inl f) s = f.no_stay (s.each f.illegal (subst (Memᴰ f.illegal) (sym f.split) (Memᴰ.append_right f.before (Memᴰ.head refl))))
       no_stays (inr d) s = d s.whole
 
-      behind : (o : Option Refusal) → ensure_stays T W none ≡ o → (¬ AreStays (animals T) (ticks T) W) → o ≡ some IllegalStay
-      behind none e d = absurd (d ((are-iff T W).0 e))
-      behind (some r) e d = ap some (eighteen T W r e)
+      behind : (o : Option Refusal) → ensure_stays T W None ≡ o → (¬ AreStays (animals T) (ticks T) W) → o ≡ Some IllegalStay
+      behind None e d = absurd (d ((are-iff T W).0 e))
+      behind (Some r) e d = ap Some (eighteen T W r e)
 
-      of : ValidTable T × Illegal → stays_answer_of (ensure_table T (ensure_stays T W none)) (Added (new_adds engine T (stay_contacts T W))) ≡ Refused IllegalStay
-      of (p, f) = rw (behind-valid T p (ensure_stays T W none), behind (ensure_stays T W none) refl (no_stays f)) refl
+      of : ValidTable T × Illegal → answer_of (ensure_table T (ensure_stays T W None)) (Ok (new_adds engine T (stay_contacts T W))) ≡ Err IllegalStay
+      of (p, f) = rw (behind-valid T p (ensure_stays T W None), behind (ensure_stays T W None) refl (no_stays f)) refl
 
-  pub added-answer : ValidTable T → AreStays (animals T) (ticks T) W → stays_answer T W ≡ Added (new_adds engine T (stay_contacts T W))
+  pub added-answer : ValidTable T → AreStays (animals T) (ticks T) W → stays_answer T W ≡ Ok (new_adds engine T (stay_contacts T W))
   unfolding stays_answer
   added-answer p s = rw ((stays-iff T W).1 (p, s)) refl
 
@@ -328,13 +325,9 @@ module _ (T W : List ℕ) where
   unfolding stays_leaves
   added-leaves p s = rw ((stays-iff T W).1 (p, s)) refl
 
-  added_exactly : ((m : ℕ) × (stays_answer T W ≡ Added m)) ↔ (ValidTable T × AreStays (animals T) (ticks T) W)
+  added_exactly : ((m : ℕ) × (stays_answer T W ≡ Ok m)) ↔ (ValidTable T × AreStays (animals T) (ticks T) W)
   unfolding stays_answer
-  added_exactly = (λ (m, e). (stays-iff T W).0 (passed (stays_refusal T W) m e), λ h. (new_adds engine T (stay_contacts T W), added-answer h.0 h.1))
-    where
-      passed : (o : Option Refusal) (m : ℕ) → stays_answer_of o (Added (new_adds engine T (stay_contacts T W))) ≡ Added m → o ≡ none
-      passed none m e = refl
-      passed (some r) m e = never cc
+  added_exactly = (λ (m, e). (stays-iff T W).0 ((given-iff (stays_refusal T W) _ m).0 e).0, λ h. (new_adds engine T (stay_contacts T W), added-answer h.0 h.1))
 
 -- ---- the contacts added
 
@@ -343,9 +336,9 @@ module _ (T W : List ℕ) (p : ValidTable T) (s : AreStays (animals T) (ticks T)
   same-legal : (l : List Contact) → Same (In l) (Met (stays_of W)) → Same (LegalOf (animals T) (ticks T) (stay_contacts T W)) (LegalOf (animals T) (ticks T) l)
   same-legal l e k = let c = contacts_exactly T W s k in (λ h. ((e k).1 (c.0 h.0), h.1), λ h. (c.1 ((e k).0 h.0), h.1))
 
-  singly : (l : List Contact) → Same (In l) (Met (stays_of W)) → (stays_answer T W ≡ Added (new_adds engine T l)) × (stays_leaves T W ≡ run engine T l)
+  singly : (l : List Contact) → Same (In l) (Met (stays_of W)) → (stays_answer T W ≡ Ok (new_adds engine T l)) × (stays_leaves T W ≡ run engine T l)
   singly l e = (
-    added-answer T W p s ∙ ap Added (same_number T p (stay_contacts T W) l (same-legal l e)),
+    added-answer T W p s ∙ ap Ok (same_number T p (stay_contacts T W) l (same-legal l e)),
     added-leaves T W p s ∙ run-same T p (stay_contacts T W) l (same-legal l e),
   )
 
@@ -430,20 +423,20 @@ module _ (T A B : List ℕ) (w : is_whole A ≡ is_whole B) (e : (s : Stay) → 
       sorted-unique Earlier earlier-irreflexive earlier-transitive (stay_contacts T A) (stay_contacts T B) (in_log_order_lem T A) (in_log_order_lem T B)
       (λ k. (listed_same A B e T k, listed_same B A turned T k))
 
-  judged_same : ensure_stays T A none ≡ ensure_stays T B none
-  judged_same = go (ensure_stays T A none) (ensure_stays T B none) refl refl
+  judged_same : ensure_stays T A None ≡ ensure_stays T B None
+  judged_same = go (ensure_stays T A None) (ensure_stays T B None) refl refl
     where
-      go : (o q : Option Refusal) → ensure_stays T A none ≡ o → ensure_stays T B none ≡ q → o ≡ q
-      go none none f g = refl
-      go none (some r) f g = none-some (ensure_stays T B none) r ((are-iff T B).1 (are-same A B e (animals T) (ticks T) w ((are-iff T A).0 f))) g
-      go (some r) none f g = none-some (ensure_stays T A none) r ((are-iff T A).1 (are-same B A turned (animals T) (ticks T) (sym w) ((are-iff T B).0 g))) f
-      go (some r) (some q) f g = ap some (eighteen T A r f ∙ sym (eighteen T B q g))
+      go : (o q : Option Refusal) → ensure_stays T A None ≡ o → ensure_stays T B None ≡ q → o ≡ q
+      go None None f g = refl
+      go None (Some r) f g = none-some (ensure_stays T B None) r ((are-iff T B).1 (are-same A B e (animals T) (ticks T) w ((are-iff T A).0 f))) g
+      go (Some r) None f g = none-some (ensure_stays T A None) r ((are-iff T A).1 (are-same B A turned (animals T) (ticks T) (sym w) ((are-iff T B).0 g))) f
+      go (Some r) (Some q) f g = ap Some (eighteen T A r f ∙ sym (eighteen T B q g))
 
   any_order : (stays_answer T A ≡ stays_answer T B) × (stays_leaves T A ≡ stays_leaves T B)
   unfolding stays_answer stays_leaves stays_refusal
   any_order = rw (judged_same, contacts-same) (refl, refl)
 
-no_stays : (T : List ℕ) → ValidTable T → (stays_answer T [] ≡ Added 0) × (stays_leaves T [] ≡ T)
+no_stays : (T : List ℕ) → ValidTable T → (stays_answer T [] ≡ Ok 0) × (stays_leaves T [] ≡ T)
 unfolding stays_of flat run new_adds
 no_stays T p =
     singly T [] p (record { whole = refl; each = λ s m. absurd (Memᴰ.not-nil m) }) []
@@ -471,13 +464,9 @@ stay_rule =
 
 -- ---- demand 1
 
-pub stays-kept : (T W : List ℕ) (r : Refusal) → stays_answer T W ≡ Refused r → stays_leaves T W ≡ T
+pub stays-kept : (T W : List ℕ) (r : Refusal) → stays_answer T W ≡ Err r → stays_leaves T W ≡ T
 unfolding stays_answer stays_leaves
-stays-kept T W r = go (stays_refusal T W)
-  where
-    go : (o : Option Refusal) → stays_answer_of o (Added (new_adds engine T (stay_contacts T W))) ≡ Refused r → unless o (run engine T (stay_contacts T W)) T ≡ T
-    go none e = never cc
-    go (some q) e = refl
+stays-kept T W r = refused-kept (stays_refusal T W) (new_adds engine T (stay_contacts T W)) _
 
 pub stays_length : (T W : List ℕ) → length (stays_leaves T W) ≡ length T
 unfolding stays_leaves

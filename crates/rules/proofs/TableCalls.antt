@@ -1,12 +1,11 @@
 -- A list of calls that change a table's contacts keeps it fresh over the contacts that they leave.
+use Rattle.std.specs.Prelude.{Option, None, Some, Ok}
 use mathlib.Core.Path.{◌≡◌, refl, sym, ◌∙◌, subst}
 use mathlib.Core.Logic.{◌↔◌, ◌⊎◌, inl, inr, ⊎_elim}
-use mathlib.Core.Option.{Option, none, some}
 use mathlib.Core.List.{List, [], ◌∷◌}
 use Prim.Native.Nat.{ℕ}
 use Rattle.journeys.specs.Journey.{Contacts, In, Union}
 use Rattle.rules.specs.declared.Refusal.{Refusal}
-use Rattle.rules.specs.declared.OpenAnswer.TheVariants.{Opened}
 use Rattle.rules.specs.Answers.{unless}
 use Rattle.rules.specs.Opening.{open_answer, open_leaves}
 use Rattle.rules.specs.Logs.{held_contacts}
@@ -26,7 +25,7 @@ use Rattle.rules.proofs.Demand3.{fresh-equal}
 
 module _ {n τ δ : ℕ} {P : Contacts} {T : List ℕ} (f : Fresh n τ δ P T) where
   -- The second can be joined exactly when the join is not refused.
-  joinable_iff : (S : List ℕ) → (join_refusal T S ≡ none) ↔ Joinable n τ δ S
+  joinable_iff : (S : List ℕ) → (join_refusal T S ≡ None) ↔ Joinable n τ δ S
   joinable_iff S =
       let w = laid-first (fresh-laid f) in (
         λ e. let j = (join-iff T S).0 e in record { valid = j.second; opening = sym j.opening ∙ w },
@@ -34,9 +33,9 @@ module _ {n τ δ : ℕ} {P : Contacts} {T : List ℕ} (f : Fresh n τ δ P T) w
       )
 
   -- A call that is refused exactly when A does not hold, and else puts the contacts Q in.
-  unless-after : {A : Type 0} (Q : Contacts) {U : List ℕ} (o : Option Refusal) → (o ≡ none) ↔ A → (A → Fresh n τ δ (Union P Q) U) → Fresh n τ δ (λ c. P c ⊎ (Q c × A)) (unless o U T)
-  unless-after Q none i g = fresh-map (g (i.0 refl)) (λ c. (⊎_elim inl (λ q. inr (q, i.0 refl)), ⊎_elim inl (λ h. inr h.0)))
-  unless-after Q (some r) i g = fresh-map f (λ c. (inl, ⊎_elim (λ p. p) (λ h. some-is_not_none (i.1 h.1))))
+  unless-after : {A : Type 0} (Q : Contacts) {U : List ℕ} (o : Option Refusal) → (o ≡ None) ↔ A → (A → Fresh n τ δ (Union P Q) U) → Fresh n τ δ (λ c. P c ⊎ (Q c × A)) (unless o U T)
+  unless-after Q None i g = fresh-map (g (i.0 refl)) (λ c. (⊎_elim inl (λ q. inr (q, i.0 refl)), ⊎_elim inl (λ h. inr h.0)))
+  unless-after Q (Some r) i g = fresh-map f (λ c. (inl, ⊎_elim (λ p. p) (λ h. some-is_not_none (i.1 h.1))))
 
   join-after : (S : List ℕ) → Fresh n τ δ (ContactsAfter n τ δ P (joining S)) (join_leaves T S)
   unfolding join_leaves
@@ -45,7 +44,7 @@ module _ {n τ δ : ℕ} {P : Contacts} {T : List ℕ} (f : Fresh n τ δ P T) w
       (λ j. let i = (join-iff T S).0 ((joinable_iff S).1 j) in subst (Fresh n τ δ (Union P (In (held_contacts S)))) (joined-leaves T S i) (first_fresh f i))
 
   -- Nothing is refused exactly when the words are stays of these animals and ticks.
-  stays-none : (W : List ℕ) → (stays_refusal T W ≡ none) ↔ AreStays n τ W
+  stays-none : (W : List ℕ) → (stays_refusal T W ≡ None) ↔ AreStays n τ W
   stays-none W =
       let i = stays-iff T W in
       (λ e. rw (fresh-animals f, fresh-ticks f) at (i.0 e).1, λ s. i.1 (fresh-passes f, rw (fresh-animals f, fresh-ticks f) s))
@@ -69,7 +68,7 @@ unfolding run_calls ContactsLeft
 calls_after [] f = f
 calls_after (c ∷ A) f = calls_after A (call-after f c)
 
-fresh_after : (n τ δ : ℕ) (words : List ℕ) (A : List TableCall) → open_answer n τ δ words ≡ Opened → Fresh n τ δ (ContactsLeft n τ δ (λ k. ⊥) A) (run_calls (open_leaves n τ δ words) A)
+fresh_after : (n τ δ : ℕ) (words : List ℕ) (A : List TableCall) → open_answer n τ δ words ≡ Ok tt → Fresh n τ δ (ContactsLeft n τ δ (λ k. ⊥) A) (run_calls (open_leaves n τ δ words) A)
 fresh_after n τ δ words A e = calls_after A (open_fresh n τ δ words ((open_none n τ δ words).0 e))
 
 pub table_calls : TableCalls

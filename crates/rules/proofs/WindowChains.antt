@@ -4,7 +4,8 @@ use mathlib.Core.Logic.{◌↔◌, inl, inr, ⊎_elim}
 use mathlib.Core.List.{List}
 use Prim.Native.Nat.{ℕ, ◌+◌, ◌≤◌}
 use native.Mathlib.Omega.{arith}
-use Rattle.journeys.specs.Journey.{Contact, contact, Contacts, interval, Journey}
+use Rattle.journeys.specs.declared.Contact.{Contact}
+use Rattle.journeys.specs.Journey.{contact, Contacts, interval, Journey}
 use Rattle.journeys.proofs.Reach.{journey-carries}
 use Rattle.rules.specs.Windows.{InWindow, Fits}
 use Rattle.rules.specs.WindowRule.{AllInWindow}

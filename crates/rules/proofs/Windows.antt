@@ -1,13 +1,15 @@
 -- Fitting a window, said of a journey's contacts and of the two ends of its interval; and which ticks pass the checks.
+use Rattle.std.specs.Prelude.{Option, Some}
 use mathlib.Core.Path.{◌≡◌, refl, sym, ap, ◌∙◌, subst}
 use mathlib.Core.Logic.{◌↔◌, ◌⊎◌, inl, inr, ⊎_elim}
 use mathlib.Core.Bool.{Bool, ◌&&◌}
-use mathlib.Core.Option.{Option, some}
 use mathlib.Core.List.Memᴰ
 use mathlib.Core.List.{List, ◌∷◌, Memᴰ}
 use Prim.Native.Nat.{ℕ, ◌+◌, ◌≤◌, ◌<◌}
 use native.Mathlib.Omega.{arith}
-use Rattle.journeys.specs.Journey.{Contact, contact, Contacts, Interval, JourneyTo, single, onward, Journey, contacts_of}
+use Rattle.journeys.specs.declared.Contact.{Contact}
+use Rattle.journeys.specs.declared.Interval.{Interval}
+use Rattle.journeys.specs.Journey.{contact, Contacts, JourneyTo, single, onward, Journey, contacts_of}
 use Rattle.journeys.proofs.Tests.{Outcome, holds, fails, le_outcome, and_outcome}
 use Rattle.journeys.proofs.Reach.{journey-carries}
 use Rattle.rules.specs.declared.Refusal.{Refusal}
@@ -113,7 +115,7 @@ check_passes : {P Q : Type 0} {b : Bool} → (Q → P → ⊥) → Outcome P Q b
 check_passes x (holds p) r o h = refl
 check_passes x (fails q) r o h = absurd (x q h)
 
-check_refuses : {P Q : Type 0} {b : Bool} → (Q → P → ⊥) → Outcome P Q b → (r : Refusal) (o : Option Refusal) → Q → ensure b r o ≡ some r
+check_refuses : {P Q : Type 0} {b : Bool} → (Q → P → ⊥) → Outcome P Q b → (r : Refusal) (o : Option Refusal) → Q → ensure b r o ≡ Some r
 check_refuses x (holds p) r o h = absurd (x h p)
 check_refuses x (fails q) r o h = refl
 
@@ -152,10 +154,10 @@ module _ (T : List ℕ) (first last : ℕ) where
       let c = w.to_last in
       by_order (omega arith, omega arith) o ∙ check_passes (λ h k. omega arith) (le_outcome first last) FirstAfterLast o b
 
-  pub window_out : TickOut (ticks T) first last → (o : Option Refusal) → ensure_window T first last o ≡ some TickOutOfRange
+  pub window_out : TickOut (ticks T) first last → (o : Option Refusal) → ensure_window T first last o ≡ Some TickOutOfRange
   window_out n o = check_refuses not-both (ranges_outcome (ticks T) first last) TickOutOfRange _ n
 
-  pub window_turned : TurnedRound (ticks T) first last → (o : Option Refusal) → ensure_window T first last o ≡ some FirstAfterLast
+  pub window_turned : TurnedRound (ticks T) first last → (o : Option Refusal) → ensure_window T first last o ≡ Some FirstAfterLast
   window_turned t o =
       let f = t.first_in_range in
       let l = t.last_in_range in

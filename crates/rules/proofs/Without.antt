@@ -3,7 +3,7 @@ use mathlib.Core.Logic.{◌↔◌, ⊎_elim}
 use mathlib.Core.Path.{refl, sym, subst}
 use mathlib.Core.Bool.{Bool, true, false, cond}
 use mathlib.Core.List.{List, [], ◌∷◌, Memᴰ}
-use Rattle.journeys.specs.Journey.{Contact}
+use Rattle.journeys.specs.declared.Contact.{Contact}
 use Rattle.journeys.proofs.Tests.{Outcome, holds, fails}
 use Rattle.rules.specs.Reading.{comes_in}
 use Rattle.rules.specs.Orders.{BeforeHead, Sorted, Earlier}

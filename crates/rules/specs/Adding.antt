@@ -1,14 +1,15 @@
 -- Adding a contact, uncounted (document 01, "Adding a contact" and "Lists of calls").
-use Rattle.std.specs.Prelude.{ℕ, ◌+◌, ◌≤◌, ◌<◌, ◌≢◌, Bool, true, false, cond, not, ◌&&◌, ◌||◌, List, [], ◌∷◌, ltb, eqb}
-use mathlib.Core.Option.{Option, none}
-use Rattle.journeys.specs.Journey.{Contact, Interval, interval}
+use Rattle.std.specs.Prelude.{ℕ, ◌+◌, ◌≤◌, ◌<◌, ◌≢◌, Bool, true, false, cond, not, ◌&&◌, ◌||◌, List, [], ◌∷◌, ltb, eqb, Option, None, Ok, Result}
+use Rattle.journeys.specs.declared.Contact.{Contact}
+use Rattle.journeys.specs.declared.Interval.{Interval}
+use Rattle.journeys.specs.Journey.{interval}
 use Rattle.journeys.specs.Cell.{Cell}
 use Rattle.journeys.specs.Adding.{Cells, add}
 use Rattle.rules.specs.declared.Refusal.{Refusal}
 use Rattle.rules.specs.declared.Refusal.TheVariants.{NoSuchAnimal, SameAnimal, TickOutOfRange}
-use Rattle.rules.specs.declared.AddAnswer.{AddAnswer}
-use Rattle.rules.specs.declared.AddAnswer.TheVariants.{New, Known}
-use Rattle.rules.specs.Answers.{ensure, unless, add_answer_of}
+use Rattle.rules.specs.declared.Added.{Added}
+use Rattle.rules.specs.declared.Added.TheVariants.{New, Known}
+use Rattle.rules.specs.Answers.{ensure, unless, answer_of}
 use Rattle.rules.specs.Folds.{sum_below, count_below, within}
 use Rattle.rules.specs.Layout.{table_words, animals, ticks, carry, cells_of}
 use Rattle.rules.specs.Checks.{ensure_table}
@@ -54,7 +55,7 @@ abbrev pub ensure_tick : List ℕ → ℕ → Option Refusal → Option Refusal
 ensure_tick T t o = ensure (within 1 t (ticks T)) TickOutOfRange o
 
 unfoldable pub add_refusal : List ℕ → Contact → Option Refusal
-add_refusal T k = ensure_table T (ensure_pair T k.from k.to (ensure_tick T k.tick none))
+add_refusal T k = ensure_table T (ensure_pair T k.from k.to (ensure_tick T k.tick None))
 
 -- The cells after the call, from the table before it.
 unfoldable pub added_cells : List ℕ → Contact → Cells
@@ -65,10 +66,11 @@ unfoldable pub holds : List ℕ → Contact → Bool
 holds T k = stands (interval k.tick (k.tick + carry T)) (cells_of T k.from k.to)
 
 -- New or known, and how many cells changed.
-unfoldable pub add_answer : List ℕ → Contact → AddAnswer
-add_answer T k =
-    let changed = cells_changed (animals T) (cells_of T) (added_cells T k) in
-    add_answer_of (add_refusal T k) (cond (holds T k) (Known changed) (New changed))
+abbrev pub added : List ℕ → Contact → Added
+added T k = let changed = cells_changed (animals T) (cells_of T) (added_cells T k) in cond (holds T k) (Known changed) (New changed)
+
+unfoldable pub add_answer : List ℕ → Contact → Result Added Refusal
+add_answer T k = answer_of (add_refusal T k) (Ok (added T k))
 
 -- The table's words afterwards.
 unfoldable pub add_leaves : List ℕ → Contact → List ℕ

@@ -2,7 +2,8 @@
 -- which legal contacts they are: neither their order nor their repeats count.
 use Rattle.std.specs.Prelude.{◌≡◌, ◌↔◌, ◌⊎◌, ℕ}
 use mathlib.Core.List.{List, Memᴰ}
-use Rattle.journeys.specs.Journey.{Contact, Same}
+use Rattle.journeys.specs.declared.Contact.{Contact}
+use Rattle.journeys.specs.Journey.{Same}
 use Rattle.rules.specs.Layout.{animals, ticks}
 use Rattle.rules.specs.Checks.{ValidTable}
 use Rattle.rules.specs.Logs.{held_contacts}

@@ -1,15 +1,13 @@
 -- Lists of calls (document 01, "Lists of calls", and document 02, Seven): what an engine is, the table that a list of adds and removals leaves,
 -- which of its calls are legal, and the set of contacts that it leaves; lists of adds alone, how many of them are answered with new, and their
 -- legal contacts.
-use Rattle.std.specs.Prelude.{ℕ, ◌+◌, ◌≡◌, ◌⊎◌, length}
+use Rattle.std.specs.Prelude.{ℕ, ◌+◌, ◌≡◌, ◌⊎◌, length, Ok, Err, Result, ⊤}
 use mathlib.Core.List.{List, [], ◌∷◌, Memᴰ}
-use Rattle.journeys.specs.Journey.{Contact, Contacts}
-use Rattle.rules.specs.declared.OpenAnswer.{OpenAnswer}
-use Rattle.rules.specs.declared.AddAnswer.{AddAnswer}
-use Rattle.rules.specs.declared.AddAnswer.TheVariants.{New, Known, Refused}
-use Rattle.rules.specs.declared.WriteAnswer.{WriteAnswer}
-use Rattle.rules.specs.declared.DoneAnswer.{DoneAnswer}
-use Rattle.rules.specs.declared.DoneAnswer.TheVariants.{Done}
+use Rattle.journeys.specs.declared.Contact.{Contact}
+use Rattle.journeys.specs.Journey.{Contacts}
+use Rattle.rules.specs.declared.Refusal.{Refusal}
+use Rattle.rules.specs.declared.Added.{Added}
+use Rattle.rules.specs.declared.Added.TheVariants.{New, Known}
 use Rattle.rules.specs.Layout.{table_length}
 use Rattle.rules.specs.Opening.{open_answer, open_leaves}
 use Rattle.rules.specs.Adding.{Legal, add_answer, add_leaves}
@@ -19,14 +17,14 @@ use Rattle.rules.specs.Removing.{remove_answer, remove_leaves, remove_work}
 -- What opening, uncounted adding, removing and log writing answer, and the words that they leave; a removal takes the words of its table, those
 -- of the second table that is lent for its work, and the contact. A contact is any three numbers.
 pub record Engine : Type 0 where
-  pub open_answer : ℕ → ℕ → ℕ → List ℕ → OpenAnswer
+  pub open_answer : ℕ → ℕ → ℕ → List ℕ → Result ⊤ Refusal
   pub open_leaves : ℕ → ℕ → ℕ → List ℕ → List ℕ
-  pub add_answer : List ℕ → Contact → AddAnswer
+  pub add_answer : List ℕ → Contact → Result Added Refusal
   pub add_leaves : List ℕ → Contact → List ℕ
-  pub remove_answer : List ℕ → List ℕ → Contact → DoneAnswer
+  pub remove_answer : List ℕ → List ℕ → Contact → Result ⊤ Refusal
   pub remove_leaves : List ℕ → List ℕ → Contact → List ℕ
   pub remove_work : List ℕ → List ℕ → Contact → List ℕ
-  pub write_answer : List ℕ → List ℕ → WriteAnswer
+  pub write_answer : List ℕ → List ℕ → Result ℕ Refusal
   pub write_leaves : List ℕ → List ℕ → List ℕ
 
 -- The engine of documents 01 and 02: the definitions that the contracts of these calls cite.
@@ -45,10 +43,10 @@ engine =
     }
 
 -- The add is accepted: its answer is no refusal.
-abbrev pub Accepted : AddAnswer → Type 0
-Accepted (New k) = Unit {0}
-Accepted (Known k) = Unit {0}
-Accepted (Refused r) = ⊥
+abbrev pub Accepted : Result Added Refusal → Type 0
+Accepted (Ok (New k)) = Unit {0}
+Accepted (Ok (Known k)) = Unit {0}
+Accepted (Err r) = ⊥
 
 -- ---- lists of adds and removals
 
@@ -74,7 +72,7 @@ table_after E n τ δ words A = run_list E (E.open_leaves n τ δ words) A
 -- The call is accepted on the table.
 abbrev pub AcceptedOn : Engine → List ℕ → Call → Type 0
 AcceptedOn E T (addition k) = Accepted (E.add_answer T k)
-AcceptedOn E T (removal k W) = E.remove_answer T W k ≡ Done
+AcceptedOn E T (removal k W) = E.remove_answer T W k ≡ Ok tt
 
 -- On a table of n animals and τ ticks.
 module _ (n τ : ℕ) where
@@ -118,10 +116,10 @@ abbrev pub table_with : ℕ → ℕ → ℕ → List ℕ → List Contact → Li
 table_with n τ δ words A = run engine (open_leaves n τ δ words) A
 
 -- 1 where the answer is new, else 0.
-abbrev pub new_one : AddAnswer → ℕ
-new_one (New k) = 1
-new_one (Known k) = 0
-new_one (Refused r) = 0
+abbrev pub new_one : Result Added Refusal → ℕ
+new_one (Ok (New k)) = 1
+new_one (Ok (Known k)) = 0
+new_one (Err r) = 0
 
 -- How many calls of the list are answered with new, each on the words that the one before it left.
 unfoldable pub new_adds : Engine → List ℕ → List Contact → ℕ

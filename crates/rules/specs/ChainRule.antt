@@ -1,6 +1,7 @@
 -- The rule of the chain, said over a set S of contacts: which chain is shown.
 use Rattle.std.specs.Prelude.{ℕ, ◌+◌, ◌≤◌, ◌≡◌, ◌⊎◌, ◌≢◌, List, [], ◌∷◌}
-use Rattle.journeys.specs.Journey.{Contact, contact, Contacts, interval, Journey}
+use Rattle.journeys.specs.declared.Contact.{Contact}
+use Rattle.journeys.specs.Journey.{contact, Contacts, interval, Journey}
 use Rattle.rules.specs.Windows.{Fits}
 
 module _ (S : Contacts) (δ goal b : ℕ) where

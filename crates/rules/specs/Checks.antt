@@ -1,6 +1,5 @@
 -- The two checks of any call on an open table (document 01, "Words of the table" and "Where each check sits").
-use Rattle.std.specs.Prelude.{ℕ, ◌+◌, ◌<◌, ◌≡◌, Bool, true, false, cond, ◌&&◌, List, [], ◌∷◌, length, get_or, take, drop, leb, ltb, eqb}
-use mathlib.Core.Option.{Option}
+use Rattle.std.specs.Prelude.{ℕ, ◌+◌, ◌<◌, ◌≡◌, Bool, true, false, cond, ◌&&◌, List, [], ◌∷◌, length, get_or, take, drop, leb, ltb, eqb, Option}
 use Rattle.journeys.specs.Cell.{WellFormedCell}
 use Rattle.journeys.specs.Adding.{Cells}
 use Rattle.words.specs.Layout.{get, is_of}

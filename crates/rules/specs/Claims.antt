@@ -1,11 +1,11 @@
 -- The check of a claimed chain (document 01, "Questions").
-use Rattle.std.specs.Prelude.{ℕ, ◌+◌, ◌≡◌, ◌↔◌, Bool, false, ◌&&◌, List, [], ◌∷◌, map, leb, ltb, eqb}
-use Rattle.journeys.specs.Journey.{Contact, Contacts, In, contacts_of}
+use Rattle.std.specs.Prelude.{ℕ, ◌+◌, ◌≡◌, ◌↔◌, Bool, false, ◌&&◌, List, [], ◌∷◌, map, leb, ltb, eqb, Ok, Result, true}
+use Rattle.journeys.specs.declared.Contact.{Contact}
+use Rattle.journeys.specs.Journey.{Contacts, In, contacts_of}
 use Rattle.words.specs.Layout.{is_of}
 use Rattle.words.specs.Words.{contact_layout, contact_of, contact_word}
-use Rattle.rules.specs.declared.AskAnswer.{AskAnswer}
-use Rattle.rules.specs.declared.AskAnswer.TheVariants.{Yes, No}
-use Rattle.rules.specs.Answers.{ask_answer_of}
+use Rattle.rules.specs.declared.Refusal.{Refusal}
+use Rattle.rules.specs.Answers.{answer_of}
 use Rattle.rules.specs.Layout.{animals, ticks, carry}
 use Rattle.rules.specs.Checks.{ValidTable}
 use Rattle.rules.specs.Adding.{holds}
@@ -36,8 +36,8 @@ form_journey T v first last x a (w ∷ y ∷ ws) =
     goes_on T first last x a w && form_journey T v first last (contact_of w).to ((contact_of w).tick + carry T) (y ∷ ws)
 
 -- Yes when the words form a journey of held contacts from u to v that fits the window.
-unfoldable pub claimed_answer : List ℕ → ℕ → ℕ → ℕ → ℕ → List ℕ → AskAnswer
-claimed_answer T u v first last ws = ask_answer_of (reach_refusal T u v first last) (form_journey T v first last u 0 ws)
+unfoldable pub claimed_answer : List ℕ → ℕ → ℕ → ℕ → ℕ → List ℕ → Result Bool Refusal
+claimed_answer T u v first last ws = answer_of (reach_refusal T u v first last) (Ok (form_journey T v first last u 0 ws))
 
 -- ---- what it means
 
@@ -50,10 +50,10 @@ pub record SpellsJourney (S : Contacts) (δ u v first last : ℕ) (ws : List ℕ
 -- passes 5 and 6 one of the contacts that it holds.
 pub record ClaimsJudged : Type 1 where
   pub yes_when : (n τ δ : ℕ) (S : Contacts) (T : List ℕ) → Fresh n τ δ S T → (u v first last : ℕ) → IsPair n u v → IsWindow τ first last → (ws : List ℕ)
-      → (claimed_answer T u v first last ws ≡ Yes) ↔ SpellsJourney S δ u v first last ws
+      → (claimed_answer T u v first last ws ≡ Ok true) ↔ SpellsJourney S δ u v first last ws
   pub no_when : (n τ δ : ℕ) (S : Contacts) (T : List ℕ) → Fresh n τ δ S T → (u v first last : ℕ) → IsPair n u v → IsWindow τ first last → (ws : List ℕ)
-      → (claimed_answer T u v first last ws ≡ No) ↔ (¬ SpellsJourney S δ u v first last ws)
+      → (claimed_answer T u v first last ws ≡ Ok false) ↔ (¬ SpellsJourney S δ u v first last ws)
   pub held_yes : (T : List ℕ) → ValidTable T → (u v first last : ℕ) → IsPair (animals T) u v → IsWindow (ticks T) first last → (ws : List ℕ)
-      → (claimed_answer T u v first last ws ≡ Yes) ↔ SpellsJourney (In (held_contacts T)) (carry T) u v first last ws
+      → (claimed_answer T u v first last ws ≡ Ok true) ↔ SpellsJourney (In (held_contacts T)) (carry T) u v first last ws
   pub held_no : (T : List ℕ) → ValidTable T → (u v first last : ℕ) → IsPair (animals T) u v → IsWindow (ticks T) first last → (ws : List ℕ)
-      → (claimed_answer T u v first last ws ≡ No) ↔ (¬ SpellsJourney (In (held_contacts T)) (carry T) u v first last ws)
+      → (claimed_answer T u v first last ws ≡ Ok false) ↔ (¬ SpellsJourney (In (held_contacts T)) (carry T) u v first last ws)

@@ -1,8 +1,8 @@
 -- What a tally means after a list of counted calls (document 01, "Adding a contact", and document 02, Seven).
-use Rattle.std.specs.Prelude.{ℕ, ◌+◌, ◌≤◌, ◌≡◌, ◌↔◌, Bool, false, cond, length}
+use Rattle.std.specs.Prelude.{ℕ, ◌+◌, ◌≤◌, ◌≡◌, ◌↔◌, Bool, false, cond, length, Ok}
 use mathlib.Core.List.{List, [], ◌∷◌, ◌++◌, map, Memᴰ}
-use Rattle.journeys.specs.Journey.{Contact, Contacts, With, Without}
-use Rattle.rules.specs.declared.DoneAnswer.TheVariants.{Done}
+use Rattle.journeys.specs.declared.Contact.{Contact}
+use Rattle.journeys.specs.Journey.{Contacts, With, Without}
 use Rattle.rules.specs.declared.Tally.{Tally}
 use Rattle.rules.specs.Checks.{ValidTable}
 use Rattle.rules.specs.Adding.{add_leaves}
@@ -80,7 +80,7 @@ pub record CountedRule : Type 1 where
   -- A counted add that is accepted, on any fresh table and with any tally, leaves the table fresh over the larger set,
   pub larger : (n τ δ : ℕ) (S : Contacts) (T : List ℕ) → Fresh n τ δ S T → (t : Tally) (k : Contact) → Accepted (counted_answer t T k) → Fresh n τ δ (With S k) (counted_leaves t T k)
   -- and a counted removal that is done over the smaller.
-  pub smaller : (n τ δ : ℕ) (S : Contacts) (T W : List ℕ) → Fresh n τ δ S T → (t : Tally) (k : Contact) → counted_removal t T W k ≡ Done
+  pub smaller : (n τ δ : ℕ) (S : Contacts) (T W : List ℕ) → Fresh n τ δ S T → (t : Tally) (k : Contact) → counted_removal t T W k ≡ Ok tt
       → Fresh n τ δ (Without S k) (counted_removal_leaves t T W k)
   -- What the tally means after a list of counted adds.
   pub from_zero : (n τ δ : ℕ) (T : List ℕ) → Fresh n τ δ (λ k. ⊥) T → (A : List Contact) → CountedAdds n τ δ T A

@@ -1,15 +1,12 @@
 -- Counted adding (document 01, "Adding a contact") and counted removing (document 02, Seven): the tally and what it does.
-use Rattle.std.specs.Prelude.{ℕ, ◌+◌, Bool, List, ltb}
-use mathlib.Core.Option.{Option, none}
-use Rattle.journeys.specs.Journey.{Contact}
+use Rattle.std.specs.Prelude.{ℕ, ◌+◌, Bool, List, ltb, Option, None, Ok, Err, Result, ⊤}
+use Rattle.journeys.specs.declared.Contact.{Contact}
 use Rattle.rules.specs.declared.Refusal.{Refusal}
 use Rattle.rules.specs.declared.Refusal.TheVariants.{TallyFull}
-use Rattle.rules.specs.declared.AddAnswer.{AddAnswer}
-use Rattle.rules.specs.declared.AddAnswer.TheVariants.{New, Known, Refused}
-use Rattle.rules.specs.declared.DoneAnswer.{DoneAnswer}
-use Rattle.rules.specs.declared.DoneAnswer.TheVariants.{Done, Refused as DoneRefused}
+use Rattle.rules.specs.declared.Added.{Added}
+use Rattle.rules.specs.declared.Added.TheVariants.{New, Known}
 use Rattle.rules.specs.declared.Tally.{Tally}
-use Rattle.rules.specs.Answers.{ensure, unless, add_answer_of, done_answer_of}
+use Rattle.rules.specs.Answers.{ensure, unless, answer_of}
 use Rattle.rules.specs.Adding.{add_answer, add_leaves}
 use Rattle.rules.specs.Removing.{remove_answer, remove_leaves, remove_work}
 
@@ -27,23 +24,23 @@ has_room t = ltb (tally_sum t) full_tally
 
 -- 16 when it has none.
 abbrev pub full_refusal : Tally → Option Refusal
-full_refusal t = ensure (has_room t) TallyFull none
+full_refusal t = ensure (has_room t) TallyFull None
 
 -- ---- adding
 
 -- 16 first, then as the uncounted add.
-unfoldable pub counted_answer : Tally → List ℕ → Contact → AddAnswer
-counted_answer t T k = add_answer_of (full_refusal t) (add_answer T k)
+unfoldable pub counted_answer : Tally → List ℕ → Contact → Result Added Refusal
+counted_answer t T k = answer_of (full_refusal t) (add_answer T k)
 
 -- The table's words afterwards.
 unfoldable pub counted_leaves : Tally → List ℕ → Contact → List ℕ
 counted_leaves t T k = unless (full_refusal t) (add_leaves T k) T
 
 -- New, known or refused rises by 1.
-abbrev pub raised : AddAnswer → Tally → Tally
-raised (New c) t = record { new = t.new + 1; known = t.known; refused = t.refused; removed = t.removed }
-raised (Known c) t = record { new = t.new; known = t.known + 1; refused = t.refused; removed = t.removed }
-raised (Refused r) t = record { new = t.new; known = t.known; refused = t.refused + 1; removed = t.removed }
+abbrev pub raised : Result Added Refusal → Tally → Tally
+raised (Ok (New c)) t = record { new = t.new + 1; known = t.known; refused = t.refused; removed = t.removed }
+raised (Ok (Known c)) t = record { new = t.new; known = t.known + 1; refused = t.refused; removed = t.removed }
+raised (Err r) t = record { new = t.new; known = t.known; refused = t.refused + 1; removed = t.removed }
 
 -- The tally afterwards; a call refused with 16 is not counted.
 unfoldable pub counted_tally : Tally → List ℕ → Contact → Tally
@@ -52,8 +49,8 @@ counted_tally t T k = unless (full_refusal t) (raised (add_answer T k) t) t
 -- ---- removing
 
 -- 16 first, then as the uncounted removal.
-unfoldable pub counted_removal : Tally → List ℕ → List ℕ → Contact → DoneAnswer
-counted_removal t T W k = done_answer_of (full_refusal t) (remove_answer T W k)
+unfoldable pub counted_removal : Tally → List ℕ → List ℕ → Contact → Result ⊤ Refusal
+counted_removal t T W k = answer_of (full_refusal t) (remove_answer T W k)
 
 -- The first table's words afterwards.
 unfoldable pub counted_removal_leaves : Tally → List ℕ → List ℕ → Contact → List ℕ
@@ -64,9 +61,9 @@ unfoldable pub counted_removal_work : Tally → List ℕ → List ℕ → Contac
 counted_removal_work t T W k = unless (full_refusal t) (remove_work T W k) W
 
 -- Removed or refused rises by 1.
-abbrev pub raised_by_removal : DoneAnswer → Tally → Tally
-raised_by_removal Done t = record { new = t.new; known = t.known; refused = t.refused; removed = t.removed + 1 }
-raised_by_removal (DoneRefused r) t = record { new = t.new; known = t.known; refused = t.refused + 1; removed = t.removed }
+abbrev pub raised_by_removal : Result ⊤ Refusal → Tally → Tally
+raised_by_removal (Ok tt) t = record { new = t.new; known = t.known; refused = t.refused; removed = t.removed + 1 }
+raised_by_removal (Err r) t = record { new = t.new; known = t.known; refused = t.refused + 1; removed = t.removed }
 
 -- The tally afterwards; a call refused with 16 is not counted.
 unfoldable pub counted_removal_tally : Tally → List ℕ → List ℕ → Contact → Tally

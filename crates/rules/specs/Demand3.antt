@@ -1,12 +1,12 @@
 -- Demand 3 of the tender, as one statement about two whole lists of calls, with its own words above its parts. By document 02,
 -- Seven, the calls are uncounted adds and removals, and the contacts of a list are those that it leaves at its end.
-use Rattle.std.specs.Prelude.{ℕ, ◌+◌, ◌≤◌, ◌<◌, ◌≡◌, ◌↔◌, ◌≢◌, length, drop}
+use Rattle.std.specs.Prelude.{ℕ, ◌+◌, ◌≤◌, ◌<◌, ◌≡◌, ◌↔◌, ◌≢◌, length, drop, Ok}
 use mathlib.Core.List.{List, ◌∷◌, ◌++◌, Memᴰ}
-use Rattle.journeys.specs.Journey.{Contact, Contacts, With, Same, Interval, Minimal}
+use Rattle.journeys.specs.declared.Contact.{Contact}
+use Rattle.journeys.specs.declared.Interval.{Interval}
+use Rattle.journeys.specs.Journey.{Contacts, With, Same, Minimal}
 use Rattle.words.specs.Words.{opening_word}
-use Rattle.rules.specs.declared.OpenAnswer.TheVariants.{Opened}
-use Rattle.rules.specs.declared.AddAnswer.TheVariants.{New, Known}
-use Rattle.rules.specs.declared.WriteAnswer.TheVariants.{Written}
+use Rattle.rules.specs.declared.Added.TheVariants.{New, Known}
 use Rattle.rules.specs.Layout.{table_length, cell_at}
 use Rattle.rules.specs.Opening.{Sizes}
 use Rattle.rules.specs.Adding.{Legal}
@@ -41,8 +41,8 @@ module _ (E : Engine) (n τ δ : ℕ) where
     pub once : Sorted Lower pairs
     pub those : (p : Pair) → Memᴰ p pairs ↔ Changed n δ S k p
     -- "and with known exactly when it was among that table's legal contacts already"
-    pub known : (E.add_answer T k ≡ Known (length pairs)) ↔ S k
-    pub new : (E.add_answer T k ≡ New (length pairs)) ↔ (¬ S k)
+    pub known : (E.add_answer T k ≡ Ok (Known (length pairs))) ↔ S k
+    pub new : (E.add_answer T k ≡ Ok (New (length pairs))) ↔ (¬ S k)
     -- "and leaves what a fresh table over the larger set would hold"
     pub larger : Fresh n τ δ (With S k) (E.add_leaves T k)
 
@@ -59,7 +59,7 @@ module _ (E : Engine) (n τ δ : ℕ) where
     pub listed : List Contact
     pub sorted : Sorted Earlier listed
     pub own : (k : Contact) → Memᴰ k listed ↔ SetLeft n τ A k
-    pub written : (B : List ℕ) → length listed + 2 ≤ length B → E.write_answer (table_after E n τ δ words A) B ≡ Written (length listed + 2)
+    pub written : (B : List ℕ) → length listed + 2 ≤ length B → E.write_answer (table_after E n τ δ words A) B ≡ Ok (length listed + 2)
     pub log : (B : List ℕ) → length listed + 2 ≤ length B
         → E.write_leaves (table_after E n τ δ words A) B ≡ log_words (opening_word n τ δ) listed ++ drop (length listed + 2) B
     -- "one legal contact more, added uncounted, …"
@@ -77,6 +77,6 @@ module _ (E : Engine) (n τ δ : ℕ) where
 -- as the last one left it, and nobody else writes it meanwhile." Removals are among the calls, each with the words lent for its work.
 pub record Demand3 (E : Engine) : Type 0 where
   -- A table can be freshly opened just when the three numbers lie within their limits and it has the length for them.
-  pub opened : (n τ δ : ℕ) (words : List ℕ) → (E.open_answer n τ δ words ≡ Opened) ↔ (Sizes n τ δ × (length words ≡ table_length n τ))
-  pub loaded : (n τ δ : ℕ) (wordsA wordsB : List ℕ) (A B : List Call) → E.open_answer n τ δ wordsA ≡ Opened → E.open_answer n τ δ wordsB ≡ Opened
+  pub opened : (n τ δ : ℕ) (words : List ℕ) → (E.open_answer n τ δ words ≡ Ok tt) ↔ (Sizes n τ δ × (length words ≡ table_length n τ))
+  pub loaded : (n τ δ : ℕ) (wordsA wordsB : List ℕ) (A B : List Call) → E.open_answer n τ δ wordsA ≡ Ok tt → E.open_answer n τ δ wordsB ≡ Ok tt
       → TwoLists E n τ δ wordsA wordsB A B

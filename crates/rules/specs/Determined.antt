@@ -1,10 +1,11 @@
 -- Any two engines that meet demand 3 agree on the tables, on which calls are accepted, on the answers of legal calls, on the second tables of
 -- removals and on the logs; any two with questions that meet demand 2 agree on what their tables store and on the answers.
-use Rattle.std.specs.Prelude.{ℕ, ◌+◌, ◌≤◌, ◌<◌, ◌≡◌, ◌↔◌, length}
+use Rattle.std.specs.Prelude.{ℕ, ◌+◌, ◌≤◌, ◌<◌, ◌≡◌, ◌↔◌, length, Ok}
 use mathlib.Core.List.{List, Memᴰ}
-use Rattle.journeys.specs.Journey.{Contact, Contacts, Interval}
+use Rattle.journeys.specs.declared.Contact.{Contact}
+use Rattle.journeys.specs.declared.Interval.{Interval}
+use Rattle.journeys.specs.Journey.{Contacts}
 use Rattle.rules.specs.Limits.{max_animals}
-use Rattle.rules.specs.declared.OpenAnswer.TheVariants.{Opened}
 use Rattle.rules.specs.Adding.{Legal}
 use Rattle.rules.specs.CallLists.{Engine, Call, removal, table_after, AcceptedOn, LegalCall, SetLeft}
 use Rattle.rules.specs.Orders.{Sorted, Earlier}
@@ -36,8 +37,8 @@ pub record AgreeAfter (E F : Engine) (n τ δ : ℕ) (words : List ℕ) (A : Lis
 
 pub record Agree (E F : Engine) : Type 0 where
   -- Which openings are accepted.
-  pub openings : (n τ δ : ℕ) (words : List ℕ) → (E.open_answer n τ δ words ≡ Opened) ↔ (F.open_answer n τ δ words ≡ Opened)
-  pub after : (n τ δ : ℕ) (words : List ℕ) (A : List Call) → E.open_answer n τ δ words ≡ Opened → AgreeAfter E F n τ δ words A
+  pub openings : (n τ δ : ℕ) (words : List ℕ) → (E.open_answer n τ δ words ≡ Ok tt) ↔ (F.open_answer n τ δ words ≡ Ok tt)
+  pub after : (n τ δ : ℕ) (words : List ℕ) (A : List Call) → E.open_answer n τ δ words ≡ Ok tt → AgreeAfter E F n τ δ words A
 
 abbrev pub Determined : Type 0
 Determined = (E F : Engine) → Demand3 E → Demand3 F → Agree E F
@@ -59,7 +60,7 @@ pub record AgreeOn (Q R : Questions) (n τ δ : ℕ) (T : List ℕ) : Type 0 whe
 
 pub record AgreeWith (E F : Engine) (Q R : Questions) : Type 1 where
   -- The same intervals are stored after any list of calls on an opened table.
-  pub stored : (n τ δ : ℕ) (words : List ℕ) (A : List Call) → E.open_answer n τ δ words ≡ Opened → F.open_answer n τ δ words ≡ Opened → (u v : ℕ) → IsPair n u v
+  pub stored : (n τ δ : ℕ) (words : List ℕ) (A : List Call) → E.open_answer n τ δ words ≡ Ok tt → F.open_answer n τ δ words ≡ Ok tt → (u v : ℕ) → IsPair n u v
       → (i : Interval) → StoredIn n τ (table_after E n τ δ words A) u v i ↔ StoredIn n τ (table_after F n τ δ words A) u v i
   -- The answers on any fresh table are the same.
   pub answers : (n τ δ : ℕ) (S : Contacts) (T : List ℕ) → Fresh n τ δ S T → AgreeOn Q R n τ δ T

@@ -1,7 +1,7 @@
 -- Which interval answers a question for the earliest arrival or the latest departure (document 02, One). A pair has its minimal intervals, and
 -- the intervals of its journeys.
 use Rattle.std.specs.Prelude.{ℕ, ◌≤◌}
-use Rattle.journeys.specs.Journey.{Interval}
+use Rattle.journeys.specs.declared.Interval.{Interval}
 
 -- The interval is minimal and leaves at first or later, and every journey that leaves then is there no sooner.
 pub record Earliest (minimal journeys : Interval → Type 0) (first : ℕ) (i : Interval) : Type 0 where

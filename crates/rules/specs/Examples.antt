@@ -1,24 +1,21 @@
 -- Worked examples as tables: contacts, questions and what each is answered. `marked` has document 01's examples P1 to P9, `worked` those that it
 -- leaves unmarked and others on the session's table.
-use Rattle.std.specs.Prelude.{ℕ, ◌≡◌, replicate}
+use Rattle.std.specs.Prelude.{ℕ, ◌≡◌, replicate, Ok, Err, Some, None, Result, Option, Bool, true, false, ⊤}
 use mathlib.Core.List.{List, [], ◌∷◌, Memᴰ}
-use Rattle.journeys.specs.Journey.{Contact, contact, interval}
+use Rattle.journeys.specs.declared.Contact.{Contact}
+use Rattle.journeys.specs.Journey.{contact, interval}
 use Rattle.journeys.specs.Cell.{Cell}
 use Rattle.words.specs.Words.{contact_word}
+use Rattle.rules.specs.declared.Refusal.{Refusal}
 use Rattle.rules.specs.declared.Refusal.TheVariants.{NoSuchAnimal, SameAnimal, TickOutOfRange, FirstAfterLast, ChainBufferTooShort}
-use Rattle.rules.specs.declared.AddAnswer.{AddAnswer}
-use Rattle.rules.specs.declared.AddAnswer.TheVariants.{New, Known, Refused as AddRefused}
-use Rattle.rules.specs.declared.AskAnswer.{AskAnswer}
-use Rattle.rules.specs.declared.AskAnswer.TheVariants.{Yes, No, Refused as AskRefused}
-use Rattle.rules.specs.declared.IntervalAnswer.{IntervalAnswer}
-use Rattle.rules.specs.declared.IntervalAnswer.TheVariants.{At, Nothing, Refused as IntervalRefused}
-use Rattle.rules.specs.declared.SetAnswer.{SetAnswer}
-use Rattle.rules.specs.declared.SetAnswer.TheVariants.{Found, Refused as SetRefused}
-use Rattle.rules.specs.declared.ChainAnswer.{ChainAnswer}
-use Rattle.rules.specs.declared.ChainAnswer.TheVariants.{Chain, NoJourney, Refused as ChainRefused}
+use Rattle.journeys.specs.declared.Interval.{Interval}
+use Rattle.rules.specs.declared.AnimalSet.{AnimalSet}
+use Rattle.rules.specs.declared.Added.{Added}
+use Rattle.rules.specs.declared.Added.TheVariants.{New, Known}
+use Rattle.rules.specs.Answers.{done}
 use Rattle.rules.specs.Layout.{table_length, cells_of}
 use Rattle.rules.specs.Adding.{add_answer}
-use Rattle.rules.specs.Questions.{reach_answer, earliest_answer, latest_answer, connected_answer, reached_answer, reached_count, reached_leaves}
+use Rattle.rules.specs.Questions.{reach_answer, earliest_answer, latest_answer, connected_answer, reached_answer, reached_set, reached_count, reached_leaves}
 use Rattle.rules.specs.Chains.{chain_answer, chain_leaves}
 use Rattle.rules.specs.Claims.{claimed_answer}
 use Rattle.rules.specs.CallLists.{table_with}
@@ -35,14 +32,18 @@ pub data Call : Type 0 where
   claimed : (u v first last : ℕ) (words : List ℕ) → Call
   add : (u v t : ℕ) → Call
 
+-- The set whose first word is w and whose others are 0, of k animals.
+abbrev pub set_of : ℕ → ℕ → Result AnimalSet Refusal
+set_of w k = Ok (record { words = w ∷ replicate 7 0; count = k })
+
 -- What it gives: its answer, and the words left where some are written.
 pub data Given : Type 0 where
   intervals : Cell → Given
-  asked : AskAnswer → Given
-  found : IntervalAnswer → Given
-  set : SetAnswer → (count : ℕ) → (left : List ℕ) → Given
-  chained : ChainAnswer → (left : List ℕ) → Given
-  added : AddAnswer → Given
+  asked : Result Bool Refusal → Given
+  found : Result (Option Interval) Refusal → Given
+  set : Result ⊤ Refusal → Result AnimalSet Refusal → (count : ℕ) → (left : List ℕ) → Given
+  chained : Result (Option ℕ) Refusal → (left : List ℕ) → Given
+  added : Result Added Refusal → Given
 
 -- What the call gives on the table.
 abbrev pub gives : List ℕ → Call → Given
@@ -51,7 +52,7 @@ gives T (reach u v first last) = asked (reach_answer T u v first last)
 gives T (earliest u v first) = found (earliest_answer T u v first)
 gives T (latest u v last) = found (latest_answer T u v last)
 gives T (connected first last) = asked (connected_answer T first last)
-gives T (reached u first last B) = set (reached_answer T u first last) (reached_count T u first last) (reached_leaves T u first last B)
+gives T (reached u first last B) = set (reached_answer T u first last) (reached_set T u first last) (reached_count T u first last) (reached_leaves T u first last B)
 gives T (chain u v first last B) = chained (chain_answer T u v first last B) (chain_leaves T u v first last B)
 gives T (claimed u v first last ws) = asked (claimed_answer T u v first last ws)
 gives T (add u v t) = added (add_answer T (contact u v t))
@@ -91,16 +92,16 @@ marked =
       carry = 1;
       contacts = session;
       rows =
-          is (reach 0 3 1 4) (asked Yes)
-          ∷ is (reach 0 3 2 4) (asked Yes)
-          ∷ is (reach 0 3 1 3) (asked No)
-          ∷ is (reach 0 3 3 6) (asked No)
-          ∷ is (reach 3 0 1 6) (asked No)
-          ∷ is (earliest 0 3 2) (found (At (record { departure = 2; arrival = 5 })))
-          ∷ is (earliest 0 3 3) (found Nothing)
-          ∷ is (latest 0 3 5) (found (At (record { departure = 2; arrival = 5 })))
-          ∷ is (latest 0 3 4) (found Nothing)
-          ∷ is (chain 0 3 1 6 (91 ∷ 92 ∷ 93 ∷ 94 ∷ [])) (chained (Chain 2) (contact_word (contact 0 1 2) ∷ contact_word (contact 1 3 4) ∷ 93 ∷ 94 ∷ []))
+          is (reach 0 3 1 4) (asked (Ok true))
+          ∷ is (reach 0 3 2 4) (asked (Ok true))
+          ∷ is (reach 0 3 1 3) (asked (Ok false))
+          ∷ is (reach 0 3 3 6) (asked (Ok false))
+          ∷ is (reach 3 0 1 6) (asked (Ok false))
+          ∷ is (earliest 0 3 2) (found (Ok (Some (record { departure = 2; arrival = 5 }))))
+          ∷ is (earliest 0 3 3) (found (Ok None))
+          ∷ is (latest 0 3 5) (found (Ok (Some (record { departure = 2; arrival = 5 }))))
+          ∷ is (latest 0 3 4) (found (Ok None))
+          ∷ is (chain 0 3 1 6 (91 ∷ 92 ∷ 93 ∷ 94 ∷ [])) (chained (Ok (Some 2)) (contact_word (contact 0 1 2) ∷ contact_word (contact 1 3 4) ∷ 93 ∷ 94 ∷ []))
           ∷ [];
     }
     ∷ record { animals = 4; ticks = 6; carry = 2; contacts = session; rows = is (cell 0 3) (intervals (interval 2 6 ∷ [])) ∷ [] }
@@ -113,7 +114,7 @@ marked =
       rows =
           is (cell 0 3) (intervals (interval 1 3 ∷ []))
           ∷ is (cell 0 4) (intervals (interval 1 7 ∷ []))
-          ∷ is (chain 0 4 1 6 (91 ∷ 92 ∷ 93 ∷ 94 ∷ [])) (chained (Chain 3) (contact_word (contact 0 1 1) ∷ contact_word (contact 1 3 4) ∷ contact_word (contact 3 4 6) ∷ 94 ∷ []))
+          ∷ is (chain 0 4 1 6 (91 ∷ 92 ∷ 93 ∷ 94 ∷ [])) (chained (Ok (Some 3)) (contact_word (contact 0 1 1) ∷ contact_word (contact 1 3 4) ∷ contact_word (contact 3 4 6) ∷ 94 ∷ []))
           ∷ [];
     }
     ∷ []
@@ -135,67 +136,67 @@ worked =
       carry = 1;
       contacts = session;
       rows =
-          is (connected 1 6) (asked No)
-          ∷ is (connected 0 6) (asked (AskRefused TickOutOfRange))
-          ∷ is (connected 1 7) (asked (AskRefused TickOutOfRange))
-          ∷ is (connected 6 0) (asked (AskRefused TickOutOfRange))
-          ∷ is (connected 6 1) (asked (AskRefused FirstAfterLast))
-          ∷ is (connected 6 6) (asked No)
-          ∷ is (reached 0 1 6 (90 ∷ 91 ∷ 92 ∷ 93 ∷ 94 ∷ 95 ∷ 96 ∷ 97 ∷ 98 ∷ [])) (set Found 2 (10 ∷ 0 ∷ 0 ∷ 0 ∷ 0 ∷ 0 ∷ 0 ∷ 0 ∷ 98 ∷ []))
-          ∷ is (reached 0 1 4 (90 ∷ 91 ∷ [])) (set Found 2 (10 ∷ 0 ∷ []))
-          ∷ is (reached 0 1 3 (90 ∷ 91 ∷ [])) (set Found 1 (2 ∷ 0 ∷ []))
-          ∷ is (reached 3 1 6 (90 ∷ [])) (set Found 0 (0 ∷ []))
-          ∷ is (reached 4 1 6 (90 ∷ 91 ∷ [])) (set (SetRefused NoSuchAnimal) 0 (90 ∷ 91 ∷ []))
-          ∷ is (reached 0 1 7 (90 ∷ 91 ∷ [])) (set (SetRefused TickOutOfRange) 0 (90 ∷ 91 ∷ []))
-          ∷ is (reached 0 7 6 (90 ∷ 91 ∷ [])) (set (SetRefused TickOutOfRange) 0 (90 ∷ 91 ∷ []))
-          ∷ is (reached 0 6 5 (90 ∷ 91 ∷ [])) (set (SetRefused FirstAfterLast) 0 (90 ∷ 91 ∷ []))
-          ∷ is (reached 4 6 5 (90 ∷ 91 ∷ [])) (set (SetRefused NoSuchAnimal) 0 (90 ∷ 91 ∷ []))
-          ∷ is (reached 0 2 2 (90 ∷ 91 ∷ [])) (set Found 1 (2 ∷ 0 ∷ []))
-          ∷ is (claimed 0 3 1 6 from_second) (asked Yes)
-          ∷ is (claimed 0 3 2 4 from_second) (asked Yes)
-          ∷ is (claimed 0 3 1 3 from_second) (asked No)
-          ∷ is (claimed 0 3 3 6 from_second) (asked No)
-          ∷ is (claimed 0 3 1 7 from_second) (asked (AskRefused TickOutOfRange))
-          ∷ is (claimed 0 3 4 0 from_second) (asked (AskRefused TickOutOfRange))
-          ∷ is (claimed 0 3 4 2 from_second) (asked (AskRefused FirstAfterLast))
-          ∷ is (claimed 0 1 2 2 (contact_word (contact 0 1 2) ∷ [])) (asked Yes)
-          ∷ is (claimed 0 3 1 6 (contact_word (contact 0 1 1) ∷ contact_word (contact 1 3 4) ∷ [])) (asked Yes)
-          ∷ is (claimed 0 3 2 6 (contact_word (contact 0 1 1) ∷ contact_word (contact 1 3 4) ∷ [])) (asked No)
-          ∷ is (claimed 0 3 1 6 (contact_word (contact 0 1 3) ∷ contact_word (contact 1 3 4) ∷ [])) (asked No)
-          ∷ is (claimed 0 3 1 6 (contact_word (contact 1 3 4) ∷ contact_word (contact 0 1 2) ∷ [])) (asked No)
-          ∷ is (claimed 0 3 1 6 []) (asked No)
-          ∷ is (claimed 0 0 1 6 []) (asked (AskRefused SameAnimal))
-          ∷ is (reach 0 3 1 6) (asked Yes)
-          ∷ is (reach 0 3 6 6) (asked No)
-          ∷ is (reach 0 3 1 7) (asked (AskRefused TickOutOfRange))
-          ∷ is (reach 0 3 7 7) (asked (AskRefused TickOutOfRange))
-          ∷ is (reach 0 3 0 4) (asked (AskRefused TickOutOfRange))
-          ∷ is (reach 0 3 7 2) (asked (AskRefused TickOutOfRange))
-          ∷ is (reach 0 3 5 0) (asked (AskRefused TickOutOfRange))
-          ∷ is (reach 0 3 7 0) (asked (AskRefused TickOutOfRange))
-          ∷ is (reach 0 3 5 2) (asked (AskRefused FirstAfterLast))
-          ∷ is (reach 0 3 2 1) (asked (AskRefused FirstAfterLast))
-          ∷ is (reach 0 3 6 1) (asked (AskRefused FirstAfterLast))
-          ∷ is (reach 0 4 5 2) (asked (AskRefused NoSuchAnimal))
-          ∷ is (reach 3 3 5 2) (asked (AskRefused SameAnimal))
-          ∷ is (reach 0 1 2 2) (asked Yes)
-          ∷ is (earliest 0 3 7) (found Nothing)
-          ∷ is (earliest 0 3 8) (found (IntervalRefused TickOutOfRange))
-          ∷ is (latest 0 3 7) (found (At (record { departure = 2; arrival = 5 })))
-          ∷ is (latest 0 3 8) (found (IntervalRefused TickOutOfRange))
-          ∷ is (latest 0 4 5) (found (IntervalRefused NoSuchAnimal))
-          ∷ is (chain 0 3 2 4 (91 ∷ 92 ∷ 93 ∷ [])) (chained (Chain 2) (contact_word (contact 0 1 2) ∷ contact_word (contact 1 3 4) ∷ 93 ∷ []))
-          ∷ is (chain 0 3 1 3 (91 ∷ 92 ∷ 93 ∷ [])) (chained NoJourney (91 ∷ 92 ∷ 93 ∷ []))
-          ∷ is (chain 0 3 3 6 (91 ∷ 92 ∷ 93 ∷ [])) (chained NoJourney (91 ∷ 92 ∷ 93 ∷ []))
-          ∷ is (chain 0 3 1 7 (91 ∷ 92 ∷ 93 ∷ [])) (chained (ChainRefused TickOutOfRange) (91 ∷ 92 ∷ 93 ∷ []))
-          ∷ is (chain 0 3 7 4 (91 ∷ 92 ∷ 93 ∷ [])) (chained (ChainRefused TickOutOfRange) (91 ∷ 92 ∷ 93 ∷ []))
-          ∷ is (chain 0 3 4 2 (91 ∷ 92 ∷ 93 ∷ [])) (chained (ChainRefused FirstAfterLast) (91 ∷ 92 ∷ 93 ∷ []))
-          ∷ is (chain 0 3 4 2 (91 ∷ 92 ∷ [])) (chained (ChainRefused FirstAfterLast) (91 ∷ 92 ∷ []))
-          ∷ is (chain 0 1 2 2 (91 ∷ 92 ∷ 93 ∷ [])) (chained (Chain 1) (contact_word (contact 0 1 2) ∷ 92 ∷ 93 ∷ []))
-          ∷ is (chain 0 3 1 6 (91 ∷ 92 ∷ [])) (chained (ChainRefused ChainBufferTooShort) (91 ∷ 92 ∷ []))
-          ∷ is (add 0 1 6) (added (New 1))
-          ∷ is (add 0 1 7) (added (AddRefused TickOutOfRange))
-          ∷ is (add 0 1 1) (added (Known 0))
+          is (connected 1 6) (asked (Ok false))
+          ∷ is (connected 0 6) (asked (Err TickOutOfRange))
+          ∷ is (connected 1 7) (asked (Err TickOutOfRange))
+          ∷ is (connected 6 0) (asked (Err TickOutOfRange))
+          ∷ is (connected 6 1) (asked (Err FirstAfterLast))
+          ∷ is (connected 6 6) (asked (Ok false))
+          ∷ is (reached 0 1 6 (90 ∷ 91 ∷ 92 ∷ 93 ∷ 94 ∷ 95 ∷ 96 ∷ 97 ∷ 98 ∷ [])) (set done (set_of 10 2) 2 (10 ∷ 0 ∷ 0 ∷ 0 ∷ 0 ∷ 0 ∷ 0 ∷ 0 ∷ 98 ∷ []))
+          ∷ is (reached 0 1 4 (90 ∷ 91 ∷ [])) (set done (set_of 10 2) 2 (10 ∷ 0 ∷ []))
+          ∷ is (reached 0 1 3 (90 ∷ 91 ∷ [])) (set done (set_of 2 1) 1 (2 ∷ 0 ∷ []))
+          ∷ is (reached 3 1 6 (90 ∷ [])) (set done (set_of 0 0) 0 (0 ∷ []))
+          ∷ is (reached 4 1 6 (90 ∷ 91 ∷ [])) (set (Err NoSuchAnimal) (Err NoSuchAnimal) 0 (90 ∷ 91 ∷ []))
+          ∷ is (reached 0 1 7 (90 ∷ 91 ∷ [])) (set (Err TickOutOfRange) (Err TickOutOfRange) 0 (90 ∷ 91 ∷ []))
+          ∷ is (reached 0 7 6 (90 ∷ 91 ∷ [])) (set (Err TickOutOfRange) (Err TickOutOfRange) 0 (90 ∷ 91 ∷ []))
+          ∷ is (reached 0 6 5 (90 ∷ 91 ∷ [])) (set (Err FirstAfterLast) (Err FirstAfterLast) 0 (90 ∷ 91 ∷ []))
+          ∷ is (reached 4 6 5 (90 ∷ 91 ∷ [])) (set (Err NoSuchAnimal) (Err NoSuchAnimal) 0 (90 ∷ 91 ∷ []))
+          ∷ is (reached 0 2 2 (90 ∷ 91 ∷ [])) (set done (set_of 2 1) 1 (2 ∷ 0 ∷ []))
+          ∷ is (claimed 0 3 1 6 from_second) (asked (Ok true))
+          ∷ is (claimed 0 3 2 4 from_second) (asked (Ok true))
+          ∷ is (claimed 0 3 1 3 from_second) (asked (Ok false))
+          ∷ is (claimed 0 3 3 6 from_second) (asked (Ok false))
+          ∷ is (claimed 0 3 1 7 from_second) (asked (Err TickOutOfRange))
+          ∷ is (claimed 0 3 4 0 from_second) (asked (Err TickOutOfRange))
+          ∷ is (claimed 0 3 4 2 from_second) (asked (Err FirstAfterLast))
+          ∷ is (claimed 0 1 2 2 (contact_word (contact 0 1 2) ∷ [])) (asked (Ok true))
+          ∷ is (claimed 0 3 1 6 (contact_word (contact 0 1 1) ∷ contact_word (contact 1 3 4) ∷ [])) (asked (Ok true))
+          ∷ is (claimed 0 3 2 6 (contact_word (contact 0 1 1) ∷ contact_word (contact 1 3 4) ∷ [])) (asked (Ok false))
+          ∷ is (claimed 0 3 1 6 (contact_word (contact 0 1 3) ∷ contact_word (contact 1 3 4) ∷ [])) (asked (Ok false))
+          ∷ is (claimed 0 3 1 6 (contact_word (contact 1 3 4) ∷ contact_word (contact 0 1 2) ∷ [])) (asked (Ok false))
+          ∷ is (claimed 0 3 1 6 []) (asked (Ok false))
+          ∷ is (claimed 0 0 1 6 []) (asked (Err SameAnimal))
+          ∷ is (reach 0 3 1 6) (asked (Ok true))
+          ∷ is (reach 0 3 6 6) (asked (Ok false))
+          ∷ is (reach 0 3 1 7) (asked (Err TickOutOfRange))
+          ∷ is (reach 0 3 7 7) (asked (Err TickOutOfRange))
+          ∷ is (reach 0 3 0 4) (asked (Err TickOutOfRange))
+          ∷ is (reach 0 3 7 2) (asked (Err TickOutOfRange))
+          ∷ is (reach 0 3 5 0) (asked (Err TickOutOfRange))
+          ∷ is (reach 0 3 7 0) (asked (Err TickOutOfRange))
+          ∷ is (reach 0 3 5 2) (asked (Err FirstAfterLast))
+          ∷ is (reach 0 3 2 1) (asked (Err FirstAfterLast))
+          ∷ is (reach 0 3 6 1) (asked (Err FirstAfterLast))
+          ∷ is (reach 0 4 5 2) (asked (Err NoSuchAnimal))
+          ∷ is (reach 3 3 5 2) (asked (Err SameAnimal))
+          ∷ is (reach 0 1 2 2) (asked (Ok true))
+          ∷ is (earliest 0 3 7) (found (Ok None))
+          ∷ is (earliest 0 3 8) (found (Err TickOutOfRange))
+          ∷ is (latest 0 3 7) (found (Ok (Some (record { departure = 2; arrival = 5 }))))
+          ∷ is (latest 0 3 8) (found (Err TickOutOfRange))
+          ∷ is (latest 0 4 5) (found (Err NoSuchAnimal))
+          ∷ is (chain 0 3 2 4 (91 ∷ 92 ∷ 93 ∷ [])) (chained (Ok (Some 2)) (contact_word (contact 0 1 2) ∷ contact_word (contact 1 3 4) ∷ 93 ∷ []))
+          ∷ is (chain 0 3 1 3 (91 ∷ 92 ∷ 93 ∷ [])) (chained (Ok None) (91 ∷ 92 ∷ 93 ∷ []))
+          ∷ is (chain 0 3 3 6 (91 ∷ 92 ∷ 93 ∷ [])) (chained (Ok None) (91 ∷ 92 ∷ 93 ∷ []))
+          ∷ is (chain 0 3 1 7 (91 ∷ 92 ∷ 93 ∷ [])) (chained (Err TickOutOfRange) (91 ∷ 92 ∷ 93 ∷ []))
+          ∷ is (chain 0 3 7 4 (91 ∷ 92 ∷ 93 ∷ [])) (chained (Err TickOutOfRange) (91 ∷ 92 ∷ 93 ∷ []))
+          ∷ is (chain 0 3 4 2 (91 ∷ 92 ∷ 93 ∷ [])) (chained (Err FirstAfterLast) (91 ∷ 92 ∷ 93 ∷ []))
+          ∷ is (chain 0 3 4 2 (91 ∷ 92 ∷ [])) (chained (Err FirstAfterLast) (91 ∷ 92 ∷ []))
+          ∷ is (chain 0 1 2 2 (91 ∷ 92 ∷ 93 ∷ [])) (chained (Ok (Some 1)) (contact_word (contact 0 1 2) ∷ 92 ∷ 93 ∷ []))
+          ∷ is (chain 0 3 1 6 (91 ∷ 92 ∷ [])) (chained (Err ChainBufferTooShort) (91 ∷ 92 ∷ []))
+          ∷ is (add 0 1 6) (added (Ok (New 1)))
+          ∷ is (add 0 1 7) (added (Err TickOutOfRange))
+          ∷ is (add 0 1 1) (added (Ok (Known 0)))
           ∷ [];
     }
     ∷ record {
@@ -204,18 +205,18 @@ worked =
       carry = 2;
       contacts = session;
       rows =
-          is (reach 0 3 2 4) (asked Yes)
-          ∷ is (reach 0 3 2 3) (asked No)
-          ∷ is (reach 0 3 3 4) (asked No)
-          ∷ is (reach 0 3 1 7) (asked (AskRefused TickOutOfRange))
-          ∷ is (reach 0 3 1 8) (asked (AskRefused TickOutOfRange))
-          ∷ is (claimed 0 3 2 4 from_second) (asked Yes)
-          ∷ is (claimed 0 3 2 3 from_second) (asked No)
-          ∷ is (claimed 0 3 3 4 from_second) (asked No)
-          ∷ is (chain 0 3 2 4 (91 ∷ 92 ∷ 93 ∷ [])) (chained (Chain 2) (contact_word (contact 0 1 2) ∷ contact_word (contact 1 3 4) ∷ 93 ∷ []))
-          ∷ is (latest 0 3 5) (found Nothing)
-          ∷ is (latest 0 3 8) (found (At (record { departure = 2; arrival = 6 })))
-          ∷ is (latest 0 3 9) (found (IntervalRefused TickOutOfRange))
+          is (reach 0 3 2 4) (asked (Ok true))
+          ∷ is (reach 0 3 2 3) (asked (Ok false))
+          ∷ is (reach 0 3 3 4) (asked (Ok false))
+          ∷ is (reach 0 3 1 7) (asked (Err TickOutOfRange))
+          ∷ is (reach 0 3 1 8) (asked (Err TickOutOfRange))
+          ∷ is (claimed 0 3 2 4 from_second) (asked (Ok true))
+          ∷ is (claimed 0 3 2 3 from_second) (asked (Ok false))
+          ∷ is (claimed 0 3 3 4 from_second) (asked (Ok false))
+          ∷ is (chain 0 3 2 4 (91 ∷ 92 ∷ 93 ∷ [])) (chained (Ok (Some 2)) (contact_word (contact 0 1 2) ∷ contact_word (contact 1 3 4) ∷ 93 ∷ []))
+          ∷ is (latest 0 3 5) (found (Ok None))
+          ∷ is (latest 0 3 8) (found (Ok (Some (record { departure = 2; arrival = 6 }))))
+          ∷ is (latest 0 3 9) (found (Err TickOutOfRange))
           ∷ [];
     }
     ∷ record {
@@ -223,7 +224,7 @@ worked =
       ticks = 2;
       carry = 1;
       contacts = contact 0 1 1 ∷ contact 1 0 2 ∷ [];
-      rows = is (connected 1 2) (asked Yes) ∷ is (connected 1 1) (asked No) ∷ is (connected 2 2) (asked No) ∷ [];
+      rows = is (connected 1 2) (asked (Ok true)) ∷ is (connected 1 1) (asked (Ok false)) ∷ is (connected 2 2) (asked (Ok false)) ∷ [];
     }
     ∷ record {
       animals = 1;
@@ -231,11 +232,11 @@ worked =
       carry = 1;
       contacts = [];
       rows =
-          is (connected 1 2) (asked Yes)
-          ∷ is (reached 0 1 2 []) (set Found 0 [])
-          ∷ is (reach 0 0 1 2) (asked (AskRefused SameAnimal))
-          ∷ is (reach 0 1 1 2) (asked (AskRefused NoSuchAnimal))
-          ∷ is (add 1 1 1) (added (AddRefused NoSuchAnimal))
+          is (connected 1 2) (asked (Ok true))
+          ∷ is (reached 0 1 2 []) (set done (set_of 0 0) 0 [])
+          ∷ is (reach 0 0 1 2) (asked (Err SameAnimal))
+          ∷ is (reach 0 1 1 2) (asked (Err NoSuchAnimal))
+          ∷ is (add 1 1 1) (added (Err NoSuchAnimal))
           ∷ [];
     }
     ∷ []

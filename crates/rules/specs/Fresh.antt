@@ -1,6 +1,7 @@
 -- What a table means (document 01, "Lists of calls").
 use Rattle.std.specs.Prelude.{ℕ, ◌≡◌, List}
-use Rattle.journeys.specs.Journey.{Contact, Contacts}
+use Rattle.journeys.specs.declared.Contact.{Contact}
+use Rattle.journeys.specs.Journey.{Contacts}
 use Rattle.journeys.specs.Adding.{Cells, CellsOf}
 use Rattle.rules.specs.Layout.{table_words}
 use Rattle.rules.specs.Opening.{Sizes}

@@ -1,13 +1,10 @@
 -- Writing a log (document 01, "Logs").
-use Rattle.std.specs.Prelude.{ℕ, ◌+◌, List, [], ◌∷◌, ◌++◌, map, length, get_or, drop, leb}
-use mathlib.Core.Option.{Option, none}
-use Rattle.journeys.specs.Journey.{Contact}
+use Rattle.std.specs.Prelude.{ℕ, ◌+◌, List, [], ◌∷◌, ◌++◌, map, length, get_or, drop, leb, Option, None, Ok, Result}
+use Rattle.journeys.specs.declared.Contact.{Contact}
 use Rattle.words.specs.Words.{contact_word, end_word}
 use Rattle.rules.specs.declared.Refusal.{Refusal}
 use Rattle.rules.specs.declared.Refusal.TheVariants.{LogBufferTooShort}
-use Rattle.rules.specs.declared.WriteAnswer.{WriteAnswer}
-use Rattle.rules.specs.declared.WriteAnswer.TheVariants.{Written}
-use Rattle.rules.specs.Answers.{ensure, unless, write_answer_of}
+use Rattle.rules.specs.Answers.{ensure, unless, answer_of}
 use Rattle.rules.specs.Layout.{animals, ticks}
 use Rattle.rules.specs.Checks.{ensure_table}
 use Rattle.rules.specs.Adding.{holds}
@@ -23,11 +20,11 @@ log_words opening l = opening ∷ (map contact_word l ++ (end_word (length l) �
 
 -- 15 when the buffer is shorter than contacts + 2.
 unfoldable pub write_refusal : List ℕ → List ℕ → Option Refusal
-write_refusal T B = ensure_table T (ensure (leb (length (held_contacts T) + 2) (length B)) LogBufferTooShort none)
+write_refusal T B = ensure_table T (ensure (leb (length (held_contacts T) + 2) (length B)) LogBufferTooShort None)
 
 -- How many words were written.
-unfoldable pub write_answer : List ℕ → List ℕ → WriteAnswer
-write_answer T B = write_answer_of (write_refusal T B) (Written (length (held_contacts T) + 2))
+unfoldable pub write_answer : List ℕ → List ℕ → Result ℕ Refusal
+write_answer T B = answer_of (write_refusal T B) (Ok (length (held_contacts T) + 2))
 
 -- The buffer's words afterwards; words behind the end keep theirs.
 unfoldable pub write_leaves : List ℕ → List ℕ → List ℕ

@@ -1,11 +1,10 @@
 -- What reading a log means, and what the sheets of two logs have in common.
-use Rattle.std.specs.Prelude.{ℕ, ◌+◌, ◌%◌, ◌≤◌, ◌<◌, ◌≡◌, ◌↔◌, length, take}
+use Rattle.std.specs.Prelude.{ℕ, ◌+◌, ◌%◌, ◌≤◌, ◌<◌, ◌≡◌, ◌↔◌, length, take, Ok}
 use mathlib.Core.List.{List, Memᴰ}
-use Rattle.journeys.specs.Journey.{Contact, Contacts, Same, In}
+use Rattle.journeys.specs.declared.Contact.{Contact}
+use Rattle.journeys.specs.Journey.{Contacts, Same, In}
 use Rattle.words.specs.Layout.{capacity}
 use Rattle.words.specs.Words.{opening_word, logged_field}
-use Rattle.rules.specs.declared.ReadAnswer.TheVariants.{Read}
-use Rattle.rules.specs.declared.WriteAnswer.TheVariants.{Written}
 use Rattle.rules.specs.Layout.{table_length}
 use Rattle.rules.specs.Opening.{Sizes}
 use Rattle.rules.specs.Adding.{Legal}
@@ -25,15 +24,15 @@ pub record IsLog (n τ δ : ℕ) (l : List Contact) (L : List ℕ) : Type 0 wher
 
 pub record LogsRead : Type 1 where
   -- A list of words is read exactly when it is a log and the table has the length for it.
-  pub read_exactly : (L T : List ℕ) → ((k : ℕ) × (read_answer L T ≡ Read k)) ↔ ((n : ℕ) × (τ : ℕ) × (δ : ℕ) × (l : List Contact) × IsLog n τ δ l L × (length T ≡ table_length n τ))
+  pub read_exactly : (L T : List ℕ) → ((k : ℕ) × (read_answer L T ≡ Ok k)) ↔ ((n : ℕ) × (τ : ℕ) × (δ : ℕ) × (l : List Contact) × IsLog n τ δ l L × (length T ≡ table_length n τ))
   -- The table is fresh over the log's contacts, so that demand 2 holds of it.
   pub read_fresh : (n τ δ : ℕ) (l : List Contact) (L T : List ℕ) → IsLog n τ δ l L → length T ≡ table_length n τ → Fresh n τ δ (In l) (read_leaves L T)
   -- The number answered counts the log's contacts, each once.
   pub read_number : (n τ δ : ℕ) (l : List Contact) (L T : List ℕ) → IsLog n τ δ l L → length T ≡ table_length n τ
-      → (m : List Contact) × Sorted Earlier m × ((k : Contact) → Memᴰ k m ↔ Memᴰ k l) × (read_answer L T ≡ Read (length m))
+      → (m : List Contact) × Sorted Earlier m × ((k : Contact) → Memᴰ k m ↔ Memᴰ k l) × (read_answer L T ≡ Ok (length m))
   -- Reading the words that were written from a fresh table gives that table, word for word, and its number of contacts.
-  pub read_written : (n τ δ : ℕ) (S : Contacts) (T : List ℕ) → Fresh n τ δ S T → (B : List ℕ) (c : ℕ) → write_answer T B ≡ Written (c + 2) → (U : List ℕ) → length U ≡ length T
-      → (read_answer (take (c + 2) (write_leaves T B)) U ≡ Read c) × (read_leaves (take (c + 2) (write_leaves T B)) U ≡ T)
+  pub read_written : (n τ δ : ℕ) (S : Contacts) (T : List ℕ) → Fresh n τ δ S T → (B : List ℕ) (c : ℕ) → write_answer T B ≡ Ok (c + 2) → (U : List ℕ) → length U ≡ length T
+      → (read_answer (take (c + 2) (write_leaves T B)) U ≡ Ok c) × (read_leaves (take (c + 2) (write_leaves T B)) U ≡ T)
   -- Two logs with the same opening give equal tables exactly when their contacts form the same set, in whatever order and
   -- with whatever repeats.
   pub read_equal : (n τ δ : ℕ) (l m : List Contact) (K L T U : List ℕ) → IsLog n τ δ l K → IsLog n τ δ m L → length T ≡ table_length n τ → length U ≡ table_length n τ

@@ -1,14 +1,13 @@
 -- What else holds of the chain that document 01's rule names: its contacts and the window, its animals, its length, and what reach and the
 -- check of a claimed chain say of it.
-use Rattle.std.specs.Prelude.{ℕ, ◌+◌, ◌≤◌, ◌≡◌, ◌↔◌, List, [], ◌∷◌, map, length}
-use mathlib.Core.Option.{some}
-use Rattle.journeys.specs.Journey.{Contact, Contacts}
+use Rattle.std.specs.Prelude.{ℕ, ◌+◌, ◌≤◌, ◌≡◌, ◌↔◌, List, [], ◌∷◌, map, length, Some, Ok, true}
+use Rattle.journeys.specs.declared.Contact.{Contact}
+use Rattle.journeys.specs.Journey.{Contacts}
 use Rattle.words.specs.Words.{contact_word}
 use Rattle.rules.specs.Fresh.{Fresh}
 use Rattle.rules.specs.Orders.{Distinct}
 use Rattle.rules.specs.Windows.{InWindow, IsWindow, IsPair}
 use Rattle.rules.specs.WindowRule.{AllInWindow}
-use Rattle.rules.specs.declared.AskAnswer.TheVariants.{Yes}
 use Rattle.rules.specs.Questions.{reach_answer}
 use Rattle.rules.specs.Chains.{chain_of}
 use Rattle.rules.specs.Claims.{claimed_answer}
@@ -29,7 +28,7 @@ pub record NamedChains : Type 1 where
   pub enough : (n τ δ : ℕ) (S : Contacts) (T : List ℕ) → Fresh n τ δ S T → (u v first last : ℕ) → IsPair n u v → (l : List Contact) → NamedChain S δ u v first last l → length l + 1 ≤ n
   -- The chain shown, claimed, is answered yes.
   pub claimed : (n τ δ : ℕ) (S : Contacts) (T : List ℕ) → Fresh n τ δ S T → (u v first last : ℕ) → IsPair n u v → IsWindow τ first last → (l : List Contact) → NamedChain S δ u v first last l
-      → claimed_answer T u v first last (map contact_word l) ≡ Yes
+      → claimed_answer T u v first last (map contact_word l) ≡ Ok true
   -- A chain is given exactly when reach says yes.
   pub given_when : (n τ δ : ℕ) (S : Contacts) (T : List ℕ) → Fresh n τ δ S T → (u v first last : ℕ) → IsPair n u v → IsWindow τ first last
-      → (reach_answer T u v first last ≡ Yes) ↔ ((l : List Contact) × (chain_of T u v first last ≡ some l))
+      → (reach_answer T u v first last ≡ Ok true) ↔ ((l : List Contact) × (chain_of T u v first last ≡ Some l))

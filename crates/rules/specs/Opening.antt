@@ -1,12 +1,10 @@
 -- Opening a table (document 01, "Animals, ticks, carry time").
-use Rattle.std.specs.Prelude.{ℕ, ◌≤◌, List, [], length, eqb}
-use mathlib.Core.Option.{Option, none}
+use Rattle.std.specs.Prelude.{ℕ, ◌≤◌, List, [], length, eqb, Option, None, Result, ⊤}
 use Rattle.journeys.specs.Adding.{Cells}
 use Rattle.rules.specs.declared.Refusal.{Refusal}
 use Rattle.rules.specs.declared.Refusal.TheVariants.{AnimalsBeyondLimit, TicksBeyondLimit, CarryBeyondLimit, WrongLength}
-use Rattle.rules.specs.declared.OpenAnswer.{OpenAnswer}
 use Rattle.rules.specs.Limits.{max_animals, max_ticks, max_carry}
-use Rattle.rules.specs.Answers.{ensure, unless, open_answer_of}
+use Rattle.rules.specs.Answers.{ensure, unless, answer_of, done}
 use Rattle.rules.specs.Folds.{within}
 use Rattle.rules.specs.Layout.{table_length, table_words}
 
@@ -29,14 +27,14 @@ ensure_sizes n τ δ o =
 
 -- Then 4 when the table's length is not the formula's.
 unfoldable pub open_refusal : ℕ → ℕ → ℕ → List ℕ → Option Refusal
-open_refusal n τ δ T = ensure_sizes n τ δ (ensure (eqb (length T) (table_length n τ)) WrongLength none)
+open_refusal n τ δ T = ensure_sizes n τ δ (ensure (eqb (length T) (table_length n τ)) WrongLength None)
 
 -- Every cell is empty.
 abbrev pub no_intervals : Cells
 no_intervals u v = []
 
-unfoldable pub open_answer : ℕ → ℕ → ℕ → List ℕ → OpenAnswer
-open_answer n τ δ T = open_answer_of (open_refusal n τ δ T)
+unfoldable pub open_answer : ℕ → ℕ → ℕ → List ℕ → Result ⊤ Refusal
+open_answer n τ δ T = answer_of (open_refusal n τ δ T) done
 
 -- The table's words afterwards: opening writes the whole table, every cell empty.
 unfoldable pub open_leaves : ℕ → ℕ → ℕ → List ℕ → List ℕ

@@ -1,7 +1,8 @@
 -- Orders of contacts and of pairs, sorted lists, contacts listed in log order and their number, and lists without repeats.
 use Rattle.std.specs.Prelude.{ℕ, ◌+◌, ◌<◌, ◌≡◌, ◌↔◌, ◌⊎◌, Bool, cond, length}
 use mathlib.Core.List.{List, [], ◌∷◌, Memᴰ}
-use Rattle.journeys.specs.Journey.{Contact, contact, Contacts}
+use Rattle.journeys.specs.declared.Contact.{Contact}
+use Rattle.journeys.specs.Journey.{contact, Contacts}
 use Rattle.rules.specs.Folds.{flat}
 
 -- The element stands in the order R before the first of the list, if there is one.

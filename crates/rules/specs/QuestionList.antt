@@ -1,24 +1,17 @@
 -- A list of question records (document 01, "Questions").
-use Rattle.std.specs.Prelude.{ℕ, length}
-use mathlib.Core.Option.{Option, none, some}
+use Rattle.std.specs.Prelude.{ℕ, length, Option, None, Some, Ok, Err, Result, Bool, true, false}
 use mathlib.Core.List.{List, map}
 use Rattle.rules.specs.declared.Refusal.{Refusal}
-use Rattle.rules.specs.declared.AskAnswer.{AskAnswer}
-use Rattle.rules.specs.declared.AskAnswer.TheVariants.{Yes, No, Refused as AskRefused}
-use Rattle.rules.specs.declared.RecordAnswer.{RecordAnswer}
-use Rattle.rules.specs.declared.RecordAnswer.TheVariants.{Yes as RecordYes, No as RecordNo, Refused as RecordRefused}
 use Rattle.rules.specs.declared.Question.{Question}
-use Rattle.rules.specs.declared.ListAnswer.{ListAnswer}
-use Rattle.rules.specs.declared.ListAnswer.TheVariants.{Answered, Refused as ListRefused}
-use Rattle.rules.specs.Answers.{number_of, unless}
+use Rattle.rules.specs.Answers.{number_of, unless, answer_of}
 use Rattle.rules.specs.Checks.{ensure_table}
 use Rattle.rules.specs.Questions.{reach_answer}
 
 -- Yes, no, or a refusal's number.
-abbrev pub record_answer_of : AskAnswer → RecordAnswer
-record_answer_of Yes = RecordYes
-record_answer_of No = RecordNo
-record_answer_of (AskRefused r) = RecordRefused (number_of r)
+abbrev pub record_answer_of : Result Bool Refusal → Option (Result Bool ℕ)
+record_answer_of (Ok true) = Some (Ok true)
+record_answer_of (Ok false) = Some (Ok false)
+record_answer_of (Err r) = Some (Err (number_of r))
 
 -- The record filled as a single reach would answer.
 unfoldable pub asked : List ℕ → Question → Question
@@ -33,15 +26,11 @@ asked T q =
 
 -- 5 and 6 refuse the whole list.
 abbrev pub list_refusal : List ℕ → Option Refusal
-list_refusal T = ensure_table T none
-
-abbrev pub list_answer_of : Option Refusal → ℕ → ListAnswer
-list_answer_of none k = Answered k
-list_answer_of (some r) k = ListRefused r
+list_refusal T = ensure_table T None
 
 -- How many records there are.
-unfoldable pub list_answer : List ℕ → List Question → ListAnswer
-list_answer T l = list_answer_of (list_refusal T) (length l)
+unfoldable pub list_answer : List ℕ → List Question → Result ℕ Refusal
+list_answer T l = answer_of (list_refusal T) (Ok (length l))
 
 -- Each record answered in its own record.
 unfoldable pub list_leaves : List ℕ → List Question → List Question

@@ -1,14 +1,11 @@
 -- Questions about windows and ticks (document 01, "Questions"). Stored intervals stand for the journeys.
-use Rattle.std.specs.Prelude.{ℕ, ◌+◌, ◌*◌, ◌^◌, Bool, cond, not, ◌&&◌, ◌||◌, List, [], ◌∷◌, ◌++◌, length, take, drop, replicate, ltb, eqb}
-use mathlib.Core.Option.{Option, none, some}
+use Rattle.std.specs.Prelude.{ℕ, ◌+◌, ◌*◌, ◌^◌, Bool, cond, not, ◌&&◌, ◌||◌, List, [], ◌∷◌, ◌++◌, length, take, drop, replicate, ltb, eqb, Option, None, Ok, Result, ⊤}
 use Rattle.journeys.specs.Cell.{has_inside, latest_departing, earliest_arriving}
 use Rattle.rules.specs.declared.Refusal.{Refusal}
 use Rattle.rules.specs.declared.Refusal.TheVariants.{NoSuchAnimal}
-use Rattle.rules.specs.declared.AskAnswer.{AskAnswer}
-use Rattle.rules.specs.declared.IntervalAnswer.{IntervalAnswer}
-use Rattle.rules.specs.declared.SetAnswer.{SetAnswer}
-use Rattle.rules.specs.declared.SetAnswer.TheVariants.{Found, Refused}
-use Rattle.rules.specs.Answers.{ensure, unless, ask_answer_of, interval_answer_of}
+use Rattle.journeys.specs.declared.Interval.{Interval}
+use Rattle.rules.specs.declared.AnimalSet.{AnimalSet}
+use Rattle.rules.specs.Answers.{ensure, unless, answer_of, done}
 use Rattle.rules.specs.Folds.{all_below, sum_below, count_below}
 use Rattle.rules.specs.Layout.{animals, carry, cells_of}
 use Rattle.rules.specs.Checks.{ensure_table}
@@ -28,23 +25,23 @@ unfoldable pub reaches : List ℕ → ℕ → ℕ → ℕ → ℕ → Bool
 reaches T u v first last = has_inside (widest (carry T) first last) (cells_of T u v)
 
 unfoldable pub reach_refusal : List ℕ → ℕ → ℕ → ℕ → ℕ → Option Refusal
-reach_refusal T u v first last = ensure_table T (ensure_pair T u v (ensure_window T first last none))
+reach_refusal T u v first last = ensure_table T (ensure_pair T u v (ensure_window T first last None))
 
-unfoldable pub reach_answer : List ℕ → ℕ → ℕ → ℕ → ℕ → AskAnswer
-reach_answer T u v first last = ask_answer_of (reach_refusal T u v first last) (reaches T u v first last)
+unfoldable pub reach_answer : List ℕ → ℕ → ℕ → ℕ → ℕ → Result Bool Refusal
+reach_answer T u v first last = answer_of (reach_refusal T u v first last) (Ok (reaches T u v first last))
 
 -- ---- earliest arrival, latest departure
 
 unfoldable pub moment_refusal : List ℕ → ℕ → ℕ → ℕ → Option Refusal
-moment_refusal T u v t = ensure_table T (ensure_pair T u v (ensure_moment T t none))
+moment_refusal T u v t = ensure_table T (ensure_pair T u v (ensure_moment T t None))
 
 -- The interval of the pair with the earliest arrival, of those that depart at or after first.
-unfoldable pub earliest_answer : List ℕ → ℕ → ℕ → ℕ → IntervalAnswer
-earliest_answer T u v first = interval_answer_of (moment_refusal T u v first) (earliest_arriving (cells_of T u v) first)
+unfoldable pub earliest_answer : List ℕ → ℕ → ℕ → ℕ → Result (Option Interval) Refusal
+earliest_answer T u v first = answer_of (moment_refusal T u v first) (Ok (earliest_arriving (cells_of T u v) first))
 
 -- The interval of the pair with the latest departure, of those that arrive by last.
-unfoldable pub latest_answer : List ℕ → ℕ → ℕ → ℕ → IntervalAnswer
-latest_answer T u v last = interval_answer_of (moment_refusal T u v last) (latest_departing (cells_of T u v) last)
+unfoldable pub latest_answer : List ℕ → ℕ → ℕ → ℕ → Result (Option Interval) Refusal
+latest_answer T u v last = answer_of (moment_refusal T u v last) (Ok (latest_departing (cells_of T u v) last))
 
 -- ---- connected
 
@@ -53,10 +50,10 @@ unfoldable pub connects : List ℕ → ℕ → ℕ → Bool
 connects T first last = all_below (λ u. all_below (λ v. eqb u v || reaches T u v first last) (animals T)) (animals T)
 
 unfoldable pub connected_refusal : List ℕ → ℕ → ℕ → Option Refusal
-connected_refusal T first last = ensure_table T (ensure_window T first last none)
+connected_refusal T first last = ensure_table T (ensure_window T first last None)
 
-unfoldable pub connected_answer : List ℕ → ℕ → ℕ → AskAnswer
-connected_answer T first last = ask_answer_of (connected_refusal T first last) (connects T first last)
+unfoldable pub connected_answer : List ℕ → ℕ → ℕ → Result Bool Refusal
+connected_answer T first last = answer_of (connected_refusal T first last) (Ok (connects T first last))
 
 -- ---- reached from u
 
@@ -82,14 +79,11 @@ set_words T u first last =
     ∷ []
 
 unfoldable pub reached_refusal : List ℕ → ℕ → ℕ → ℕ → Option Refusal
-reached_refusal T u first last = ensure_table T (ensure_animal T u (ensure_window T first last none))
+reached_refusal T u first last = ensure_table T (ensure_animal T u (ensure_window T first last None))
 
-abbrev pub set_answer_of : Option Refusal → SetAnswer
-set_answer_of none = Found
-set_answer_of (some r) = Refused r
-
-unfoldable pub reached_answer : List ℕ → ℕ → ℕ → ℕ → SetAnswer
-reached_answer T u first last = set_answer_of (reached_refusal T u first last)
+-- Whether a set is found.
+unfoldable pub reached_answer : List ℕ → ℕ → ℕ → ℕ → Result ⊤ Refusal
+reached_answer T u first last = answer_of (reached_refusal T u first last) done
 
 -- The set's words; all 0 on a refusal.
 unfoldable pub reached_words : List ℕ → ℕ → ℕ → ℕ → List ℕ
@@ -98,6 +92,11 @@ reached_words T u first last = unless (reached_refusal T u first last) (set_word
 -- Its number of animals; 0 on a refusal.
 unfoldable pub reached_count : List ℕ → ℕ → ℕ → ℕ → ℕ
 reached_count T u first last = unless (reached_refusal T u first last) (count_below (is_reached T u first last) (animals T)) 0
+
+-- The set record, where one is found: its words and its number of animals.
+unfoldable pub reached_set : List ℕ → ℕ → ℕ → ℕ → Result AnimalSet Refusal
+reached_set T u first last =
+    answer_of (reached_refusal T u first last) (Ok (record { words = reached_words T u first last; count = reached_count T u first last }))
 
 -- A set's eight words at the front of others, as many as there is room for; the words behind keep theirs.
 abbrev pub set_over : List ℕ → List ℕ → List ℕ

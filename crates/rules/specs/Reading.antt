@@ -1,16 +1,11 @@
 -- Reading a log (document 01, "Logs" and "Where each check sits").
-use Rattle.std.specs.Prelude.{ℕ, ◌+◌, ◌-◌, Bool, false, cond, not, ◌&&◌, ◌||◌, List, [], ◌∷◌, map, length, get_or, take, drop, leb, ltb, eqb}
-use mathlib.Core.Option.{Option, none, some}
-use Rattle.journeys.specs.Journey.{Contact}
+use Rattle.std.specs.Prelude.{ℕ, ◌+◌, ◌-◌, Bool, false, cond, not, ◌&&◌, ◌||◌, List, [], ◌∷◌, map, length, get_or, take, drop, leb, ltb, eqb, Option, None, Ok, Result}
+use Rattle.journeys.specs.declared.Contact.{Contact}
 use Rattle.words.specs.Layout.{get, is_of}
 use Rattle.words.specs.Words.{opening_layout, contact_layout, contact_of, end_layout, logged_field}
 use Rattle.rules.specs.declared.Refusal.{Refusal}
 use Rattle.rules.specs.declared.Refusal.TheVariants.{NotALog, WrongLength, NotAContact, IllegalContact, WrongEnd}
-use Rattle.rules.specs.declared.ReadAnswer.{ReadAnswer}
-use Rattle.rules.specs.declared.ReadAnswer.TheVariants.{Read}
-use Rattle.rules.specs.declared.LogWord.{LogWord}
-use Rattle.rules.specs.declared.LogWord.TheVariants.{Legal, NoContact, NotLegal}
-use Rattle.rules.specs.Answers.{ensure, unless, read_answer_of}
+use Rattle.rules.specs.Answers.{ensure, unless, answer_of}
 use Rattle.rules.specs.Layout.{table_length, animals, ticks, carry}
 use Rattle.rules.specs.Adding.{same_contact}
 use Rattle.rules.specs.CallLists.{table_with}
@@ -39,20 +34,14 @@ is_true_end count w = is_of end_layout w && eqb (get logged_field w) count
 unfoldable pub is_legal : ℕ → ℕ → Contact → Bool
 is_legal n τ k = ltb k.from n && ltb k.to n && not (eqb k.from k.to) && leb k.tick τ
 
--- What a word between the first and the last is.
-unfoldable pub log_word : ℕ → ℕ → ℕ → LogWord
-log_word n τ w = cond (is_of contact_layout w) (cond (is_legal n τ (contact_of w)) Legal NotLegal) NoContact
-
--- 12 when it is no contact word, 13 when its contact is not legal.
-abbrev pub ensure_legal : LogWord → Option Refusal → Option Refusal
-ensure_legal Legal o = o
-ensure_legal NoContact o = some NotAContact
-ensure_legal NotLegal o = some IllegalContact
+-- A word between the first and the last: 12 when it is no contact word, 13 when its contact is not legal.
+unfoldable pub ensure_word : ℕ → ℕ → ℕ → Option Refusal → Option Refusal
+ensure_word n τ w o = ensure (is_of contact_layout w) NotAContact (ensure (is_legal n τ (contact_of w)) IllegalContact o)
 
 -- Each word in turn.
 unfoldable pub ensure_words : ℕ → ℕ → List ℕ → Option Refusal → Option Refusal
 ensure_words n τ [] o = o
-ensure_words n τ (w ∷ ws) o = ensure_legal (log_word n τ w) (ensure_words n τ ws o)
+ensure_words n τ (w ∷ ws) o = ensure_word n τ w (ensure_words n τ ws o)
 
 -- 11; then 4 when the table's length is not the formula's; then each word between first and last; then 14.
 unfoldable pub read_refusal : List ℕ → List ℕ → Option Refusal
@@ -61,7 +50,7 @@ read_refusal L T =
     (ensure (eqb (length T) (table_length (animals L) (ticks L))) WrongLength
     (ensure_words (animals L) (ticks L) (between L)
     (ensure (is_true_end (length (between L)) (get_or L (length L - 1) 0)) WrongEnd
-    none)))
+    None)))
 
 -- ---- the reply and the words left
 
@@ -75,8 +64,8 @@ unfoldable pub different : List Contact → ℕ
 different [] = 0
 different (k ∷ l) = cond (comes_in k l) 0 1 + different l
 
-unfoldable pub read_answer : List ℕ → List ℕ → ReadAnswer
-read_answer L T = read_answer_of (read_refusal L T) (Read (different (logged_contacts L)))
+unfoldable pub read_answer : List ℕ → List ℕ → Result ℕ Refusal
+read_answer L T = answer_of (read_refusal L T) (Ok (different (logged_contacts L)))
 
 -- The table's words afterwards: those of the log's opening with its contacts added, once nothing in the log is refused.
 unfoldable pub read_leaves : List ℕ → List ℕ → List ℕ

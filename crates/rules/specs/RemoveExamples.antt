@@ -1,16 +1,16 @@
 -- Removals worked out, as one table: two tables and a contact, what the removal answers, and the words of both tables afterwards.
-use Rattle.std.specs.Prelude.{ℕ, ◌≡◌, drop}
+use Rattle.std.specs.Prelude.{ℕ, ◌≡◌, drop, Ok, Err, Result, ⊤}
 use mathlib.Core.List.{List, [], ◌∷◌, Memᴰ}
-use Rattle.journeys.specs.Journey.{Contact, contact, interval}
+use Rattle.journeys.specs.declared.Contact.{Contact}
+use Rattle.journeys.specs.Journey.{contact, interval}
+use Rattle.rules.specs.declared.Refusal.{Refusal}
 use Rattle.rules.specs.declared.Refusal.TheVariants.{NotOpen, NotWellFormed, NoSuchAnimal, SameAnimal, TickOutOfRange, DifferentLengths, NotHeld}
-use Rattle.rules.specs.declared.DoneAnswer.{DoneAnswer}
-use Rattle.rules.specs.declared.DoneAnswer.TheVariants.{Done, Refused}
 use Rattle.rules.specs.Removing.{remove_answer, remove_leaves, remove_work}
 use Rattle.rules.specs.JoinExamples.{stored, none, early, chained, damaged}
 
 -- What a removal gives: its answer, and the words of the first table and of the second.
 pub record RemoveGiven : Type 0 where
-  pub answer : DoneAnswer
+  pub answer : Result ⊤ Refusal
   pub left : List ℕ
   pub work : List ℕ
 
@@ -23,10 +23,10 @@ pub record RemoveRow : Type 0 where
 
 -- A removal that is done: both tables hold the same words.
 abbrev removes : List ℕ → List ℕ → Contact → List ℕ → RemoveRow
-removes T W k U = record { table = T; work = W; removed = k; given = record { answer = Done; left = U; work = U } }
+removes T W k U = record { table = T; work = W; removed = k; given = record { answer = (Ok tt); left = U; work = U } }
 
 -- A removal that is refused: both tables keep their words.
-abbrev refuses : List ℕ → List ℕ → Contact → DoneAnswer → RemoveRow
+abbrev refuses : List ℕ → List ℕ → Contact → Result ⊤ Refusal → RemoveRow
 refuses T W k a = record { table = T; work = W; removed = k; given = record { answer = a; left = T; work = W } }
 
 -- What the removal of a row gives.
@@ -57,20 +57,20 @@ remove_rows =
     ∷ removes (stored (interval 1 2 ∷ []) (interval 2 3 ∷ interval 3 4 ∷ []) []) none (contact 1 2 3) chained
     ∷ removes (stored [] (interval 2 3 ∷ interval 3 4 ∷ []) (interval 1 4 ∷ [])) none (contact 1 2 3) late
     -- 5 and 6 of the first table, whatever the second is and the contact.
-    ∷ refuses [] none (contact 9 9 0) (Refused NotOpen)
-    ∷ refuses (damaged early) [] (contact 9 9 0) (Refused NotWellFormed)
+    ∷ refuses [] none (contact 9 9 0) (Err NotOpen)
+    ∷ refuses (damaged early) [] (contact 9 9 0) (Err NotWellFormed)
     -- 20, whatever the contact: a second table that is shorter, and one that is longer.
-    ∷ refuses early (drop 1 early) (contact 9 9 0) (Refused DifferentLengths)
-    ∷ refuses early (0 ∷ early) (contact 0 1 1) (Refused DifferentLengths)
+    ∷ refuses early (drop 1 early) (contact 9 9 0) (Err DifferentLengths)
+    ∷ refuses early (0 ∷ early) (contact 0 1 1) (Err DifferentLengths)
     -- 7, then 8, then 9, each of a contact that is not held either.
-    ∷ refuses early none (contact 3 3 0) (Refused NoSuchAnimal)
-    ∷ refuses early none (contact 1 1 0) (Refused SameAnimal)
-    ∷ refuses early none (contact 0 1 4) (Refused TickOutOfRange)
-    ∷ refuses early none (contact 0 1 0) (Refused TickOutOfRange)
+    ∷ refuses early none (contact 3 3 0) (Err NoSuchAnimal)
+    ∷ refuses early none (contact 1 1 0) (Err SameAnimal)
+    ∷ refuses early none (contact 0 1 4) (Err TickOutOfRange)
+    ∷ refuses early none (contact 0 1 0) (Err TickOutOfRange)
     -- 21: another tick, the pair turned round, an interval that no contact made alone.
-    ∷ refuses early none (contact 0 1 2) (Refused NotHeld)
-    ∷ refuses early none (contact 1 0 1) (Refused NotHeld)
-    ∷ refuses chained none (contact 0 2 1) (Refused NotHeld)
+    ∷ refuses early none (contact 0 1 2) (Err NotHeld)
+    ∷ refuses early none (contact 1 0 1) (Err NotHeld)
+    ∷ refuses chained none (contact 0 2 1) (Err NotHeld)
     ∷ []
 
 -- Every removal gives what its row says.

@@ -1,13 +1,10 @@
 -- Removing a contact, with a second table lent for work (document 02, Seven).
-use Rattle.std.specs.Prelude.{ℕ, not, ◌&&◌, List, length, eqb}
-use mathlib.Core.Option.{Option, none}
-use Rattle.journeys.specs.Journey.{Contact}
+use Rattle.std.specs.Prelude.{ℕ, not, ◌&&◌, List, length, eqb, Option, None, Result, ⊤}
+use Rattle.journeys.specs.declared.Contact.{Contact}
 use Rattle.journeys.specs.Adding.{cells_over}
 use Rattle.rules.specs.declared.Refusal.{Refusal}
 use Rattle.rules.specs.declared.Refusal.TheVariants.{DifferentLengths, NotHeld}
-use Rattle.rules.specs.declared.DoneAnswer.{DoneAnswer}
-use Rattle.rules.specs.declared.DoneAnswer.TheVariants.{Done}
-use Rattle.rules.specs.Answers.{ensure, unless, done_answer_of}
+use Rattle.rules.specs.Answers.{ensure, unless, answer_of, done}
 use Rattle.rules.specs.Layout.{table_words, animals, ticks, carry}
 use Rattle.rules.specs.Checks.{ensure_table}
 use Rattle.rules.specs.Adding.{same_contact, ensure_pair, ensure_tick, holds}
@@ -23,7 +20,7 @@ ensure_held T k o = ensure (holds T k) NotHeld o
 
 -- 5 and 6 for the first table T, 20 for the second W, then 7, 8, 9, and 21.
 unfoldable pub remove_refusal : List ℕ → List ℕ → Contact → Option Refusal
-remove_refusal T W k = ensure_table T (ensure_same_length T W (ensure_pair T k.from k.to (ensure_tick T k.tick (ensure_held T k none))))
+remove_refusal T W k = ensure_table T (ensure_same_length T W (ensure_pair T k.from k.to (ensure_tick T k.tick (ensure_held T k None))))
 
 -- The contacts that the table holds, less this one.
 unfoldable pub remaining : List ℕ → Contact → List Contact
@@ -34,8 +31,8 @@ unfoldable pub table_without : List ℕ → Contact → List ℕ
 table_without T k = table_words (animals T) (ticks T) (carry T) (cells_over (carry T) (remaining T k))
 
 -- Done, or the refusal.
-unfoldable pub remove_answer : List ℕ → List ℕ → Contact → DoneAnswer
-remove_answer T W k = done_answer_of (remove_refusal T W k) Done
+unfoldable pub remove_answer : List ℕ → List ℕ → Contact → Result ⊤ Refusal
+remove_answer T W k = answer_of (remove_refusal T W k) done
 
 -- The first table's words afterwards.
 unfoldable pub remove_leaves : List ℕ → List ℕ → Contact → List ℕ

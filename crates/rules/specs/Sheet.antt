@@ -1,11 +1,10 @@
 -- What the printing program prints (document 01, "One session, whole"). A text is a list of bytes in ASCII.
-use Rattle.std.specs.Prelude.{ℕ, zero, suc, ◌+◌, ◌*◌, ◌/◌, ◌%◌, ◌^◌, Bool, cond, not, ◌&&◌, List, [], ◌∷◌, ◌++◌, length, get_or, replicate, leb, ltb, eqb}
-use Rattle.journeys.specs.Journey.{Interval}
+use Rattle.std.specs.Prelude.{ℕ, zero, suc, ◌+◌, ◌*◌, ◌/◌, ◌%◌, ◌^◌, Bool, cond, not, ◌&&◌, List, [], ◌∷◌, ◌++◌, length, get_or, replicate, leb, ltb, eqb, Ok, Err, Result}
+use Rattle.journeys.specs.declared.Interval.{Interval}
 use Rattle.journeys.specs.Cell.{Cell}
 use Rattle.words.specs.Layout.{is_of}
 use Rattle.words.specs.Words.{opening_layout}
-use Rattle.rules.specs.declared.ReadAnswer.{ReadAnswer}
-use Rattle.rules.specs.declared.ReadAnswer.TheVariants.{Read, Refused}
+use Rattle.rules.specs.declared.Refusal.{Refusal}
 use Rattle.rules.specs.Answers.{number_of}
 use Rattle.rules.specs.Folds.{flat}
 use Rattle.rules.specs.Layout.{table_length, animals, ticks, carry, cells_of}
@@ -104,9 +103,9 @@ unfoldable pub is_beyond : List ℕ → Bool
 is_beyond L = is_of opening_layout (get_or L 0 0) && not (leb (animals L) most_animals && leb (ticks L) most_ticks)
 
 -- What reading answered: the table, or the refusal.
-abbrev pub read_text : ReadAnswer → List ℕ → List ℕ
-read_text (Read k) T = table_text T
-read_text (Refused r) T = refused_text (number_of r)
+abbrev pub read_text : Result ℕ Refusal → List ℕ → List ℕ
+read_text (Ok k) T = table_text T
+read_text (Err r) T = refused_text (number_of r)
 
 -- What is printed for a log: it is read into a table of the length for it.
 unfoldable pub log_text : List ℕ → List ℕ

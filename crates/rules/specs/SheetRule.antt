@@ -1,10 +1,10 @@
 -- What the printing program prints, case by case, with its limits in numbers (document 01, "One session, whole").
-use Rattle.std.specs.Prelude.{ℕ, ◌%◌, ◌≤◌, ◌<◌, ◌≡◌, ◌⊎◌, ◌≢◌, false, List, length, get_or}
-use Rattle.journeys.specs.Journey.{Contact, In}
+use Rattle.std.specs.Prelude.{ℕ, ◌%◌, ◌≤◌, ◌<◌, ◌≡◌, ◌⊎◌, ◌≢◌, false, List, length, get_or, Err}
+use Rattle.journeys.specs.declared.Contact.{Contact}
+use Rattle.journeys.specs.Journey.{In}
 use Rattle.words.specs.Layout.{is_of}
 use Rattle.words.specs.Words.{opening_layout, opening_word}
 use Rattle.rules.specs.declared.Refusal.{Refusal}
-use Rattle.rules.specs.declared.ReadAnswer.TheVariants.{Refused}
 use Rattle.rules.specs.Answers.{number_of}
 use Rattle.rules.specs.Layout.{table_length}
 use Rattle.rules.specs.Opening.{Sizes}
@@ -34,6 +34,6 @@ pub record SheetRule : Type 0 where
   pub printed : (n τ δ : ℕ) (l : List Contact) (B : List ℕ) → WholeWords B → IsLog n τ δ l (words_of B) → n ≤ 8 → τ ≤ 64 → (T : List ℕ) → Fresh n τ δ (In l) T → sheet_text B ≡ table_text T
   -- Up to there, what reading refuses, whatever the table of the length for it: "refused" and the number.
   pub refused : (n τ δ : ℕ) (B : List ℕ) → WholeWords B → OpensWith n τ δ B → n ≤ 8 → τ ≤ 64 → (T : List ℕ) → length T ≡ table_length n τ
-      → (r : Refusal) → read_answer (words_of B) T ≡ Refused r → sheet_text B ≡ refused_text (number_of r)
+      → (r : Refusal) → read_answer (words_of B) T ≡ Err r → sheet_text B ≡ refused_text (number_of r)
   -- Whole words that begin with no opening word: "refused 11".
   pub no_opening : (B : List ℕ) → WholeWords B → is_of opening_layout (get_or (words_of B) 0 0) ≡ false → sheet_text B ≡ refused_text 11

@@ -1,12 +1,11 @@
 -- What document 02, Four, promises of a list of stays; above each part stands what it says. That nothing is added on a refusal is of demand 1.
-use Rattle.std.specs.Prelude.{◌≡◌, ◌↔◌, ◌⊎◌, ◌≢◌, true, ℕ, ◌%◌, ◌≤◌, ◌<◌, length}
-use mathlib.Core.Option.{none, some}
+use Rattle.std.specs.Prelude.{◌≡◌, ◌↔◌, ◌⊎◌, ◌≢◌, true, ℕ, ◌%◌, ◌≤◌, ◌<◌, length, None, Some, Ok, Err}
 use mathlib.Core.List.{List, [], ◌∷◌, ◌++◌, Memᴰ}
-use Rattle.journeys.specs.Journey.{Contact, contact, Contacts, In, Union, Same}
+use Rattle.journeys.specs.declared.Contact.{Contact}
+use Rattle.journeys.specs.Journey.{contact, Contacts, In, Union, Same}
 use Rattle.rules.specs.declared.Refusal.{Refusal}
 use Rattle.rules.specs.declared.Refusal.TheVariants.{IllegalStay}
 use Rattle.rules.specs.declared.Stay.{Stay}
-use Rattle.rules.specs.declared.StaysAnswer.TheVariants.{Added, Refused}
 use Rattle.rules.specs.Limits.{max_pen}
 use Rattle.rules.specs.Layout.{animals, ticks}
 use Rattle.rules.specs.Checks.{ValidTable, ensure_table}
@@ -65,7 +64,7 @@ pub record Met (l : List Stay) (k : Contact) : Type 0 where
 -- The stays are added to T, and the answer is the number of the contacts in P, each counted once.
 pub record StaysCount (T W : List ℕ) (P : Contacts) : Type 0 where
   pub new : ℕ
-  pub answered : stays_answer T W ≡ Added new
+  pub answered : stays_answer T W ≡ Ok new
   pub number : NumberOf P new
 
 pub record StayRule : Type 1 where
@@ -73,12 +72,12 @@ pub record StayRule : Type 1 where
   pub read_again : (l : List Stay) → (stays_of (stay_words l) ≡ l) × (is_whole (stay_words l) ≡ true)
   pub words_again : (W : List ℕ) → is_whole W ≡ true → stay_words (stays_of W) ≡ W
   -- 5 and 6 are judged before the records, whatever these are.
-  pub table_judged : (T W : List ℕ) (r : Refusal) → ensure_table T none ≡ some r → stays_answer T W ≡ Refused r
+  pub table_judged : (T W : List ℕ) (r : Refusal) → ensure_table T None ≡ Some r → stays_answer T W ≡ Err r
   -- 18 is given behind them, exactly when there is a first record in list order that is no stay of the table's animals and ticks, or the last
   -- record is incomplete; else the contacts are added. Stays of one animal may overlap, in one pen or in two.
-  pub refused_exactly : (T W : List ℕ) → (stays_answer T W ≡ Refused IllegalStay)
+  pub refused_exactly : (T W : List ℕ) → (stays_answer T W ≡ Err IllegalStay)
       ↔ (ValidTable T × (FirstIllegal (animals T) (ticks T) (stays_of W) ⊎ (length W % 4 ≢ 0)))
-  pub added_exactly : (T W : List ℕ) → ((m : ℕ) × (stays_answer T W ≡ Added m)) ↔ (ValidTable T × AreStays (animals T) (ticks T) W)
+  pub added_exactly : (T W : List ℕ) → ((m : ℕ) × (stays_answer T W ≡ Ok m)) ↔ (ValidTable T × AreStays (animals T) (ticks T) W)
   -- A contact is among those added exactly when two records say so; they are listed each once, in log order,
   pub contacts_exactly : (T W : List ℕ) → AreStays (animals T) (ticks T) W → Same (In (stay_contacts T W)) (Met (stays_of W))
   pub in_log_order : (T W : List ℕ) → Sorted Earlier (stay_contacts T W)
@@ -86,7 +85,7 @@ pub record StayRule : Type 1 where
   pub both_ways : (l : List Stay) (u v t : ℕ) → Met l (contact u v t) → Met l (contact v u t)
   -- The outcome is that of adding these contacts singly, on any table that passes 5 and 6, in log order or in any other, repeats or not.
   pub singly : (T W : List ℕ) → ValidTable T → AreStays (animals T) (ticks T) W → (l : List Contact) → Same (In l) (Met (stays_of W))
-      → (stays_answer T W ≡ Added (new_adds engine T l)) × (stays_leaves T W ≡ run engine T l)
+      → (stays_answer T W ≡ Ok (new_adds engine T l)) × (stays_leaves T W ≡ run engine T l)
   -- The table then holds its own contacts and those of the stays,
   pub both_held : (T W : List ℕ) → ValidTable T → AreStays (animals T) (ticks T) W
       → (k : Contact) → Memᴰ k (held_contacts (stays_leaves T W)) ↔ (Memᴰ k (held_contacts T) ⊎ Met (stays_of W) k)
@@ -99,4 +98,4 @@ pub record StayRule : Type 1 where
   pub any_order : (T A B : List ℕ) → is_whole A ≡ is_whole B → ((s : Stay) → Memᴰ s (stays_of A) ↔ Memᴰ s (stays_of B))
       → (stays_answer T A ≡ stays_answer T B) × (stays_leaves T A ≡ stays_leaves T B)
   -- An empty list answers 0 and leaves the table.
-  pub no_stays : (T : List ℕ) → ValidTable T → (stays_answer T [] ≡ Added 0) × (stays_leaves T [] ≡ T)
+  pub no_stays : (T : List ℕ) → ValidTable T → (stays_answer T [] ≡ Ok 0) × (stays_leaves T [] ≡ T)

@@ -1,14 +1,11 @@
 -- Adding the contacts of a list of stay records (document 02, Four).
-use Rattle.std.specs.Prelude.{ℕ, ◌+◌, ◌*◌, ◌/◌, ◌%◌, Bool, not, ◌&&◌, List, [], ◌∷◌, length, get_or, leb, ltb, eqb}
-use mathlib.Core.Option.{Option, none}
-use Rattle.journeys.specs.Journey.{Contact}
+use Rattle.std.specs.Prelude.{ℕ, ◌+◌, ◌*◌, ◌/◌, ◌%◌, Bool, not, ◌&&◌, List, [], ◌∷◌, length, get_or, leb, ltb, eqb, Option, None, Ok, Result}
+use Rattle.journeys.specs.declared.Contact.{Contact}
 use Rattle.rules.specs.declared.Refusal.{Refusal}
 use Rattle.rules.specs.declared.Refusal.TheVariants.{IllegalStay}
 use Rattle.rules.specs.declared.Stay.{Stay}
-use Rattle.rules.specs.declared.StaysAnswer.{StaysAnswer}
-use Rattle.rules.specs.declared.StaysAnswer.TheVariants.{Added}
 use Rattle.rules.specs.Limits.{max_pen}
-use Rattle.rules.specs.Answers.{ensure, unless, stays_answer_of}
+use Rattle.rules.specs.Answers.{ensure, unless, answer_of}
 use Rattle.rules.specs.Folds.{flat, within, any_of}
 use Rattle.rules.specs.Layout.{animals, ticks}
 use Rattle.rules.specs.Checks.{ensure_table}
@@ -45,7 +42,7 @@ abbrev pub ensure_stays : List ℕ → List ℕ → Option Refusal → Option Re
 ensure_stays T W o = ensure_each (animals T) (ticks T) (stays_of W) (ensure (is_whole W) IllegalStay o)
 
 unfoldable pub stays_refusal : List ℕ → List ℕ → Option Refusal
-stays_refusal T W = ensure_table T (ensure_stays T W none)
+stays_refusal T W = ensure_table T (ensure_stays T W None)
 
 -- ---- the contacts
 
@@ -68,8 +65,8 @@ stay_contacts T W = in_log_order (animals T) (ticks T) (met (stays_of W))
 -- ---- the reply and the words left
 
 -- How many of the contacts, added singly in log order, are new to the table.
-unfoldable pub stays_answer : List ℕ → List ℕ → StaysAnswer
-stays_answer T W = stays_answer_of (stays_refusal T W) (Added (new_adds engine T (stay_contacts T W)))
+unfoldable pub stays_answer : List ℕ → List ℕ → Result ℕ Refusal
+stays_answer T W = answer_of (stays_refusal T W) (Ok (new_adds engine T (stay_contacts T W)))
 
 -- The table's words afterwards: the contacts added in log order. The records are only read.
 unfoldable pub stays_leaves : List ℕ → List ℕ → List ℕ

@@ -1,10 +1,10 @@
 -- The calls that change a table's contacts, what a list of them leaves, and the contacts that it leaves (document 02: tables built from an
 -- opening by calls).
-use Rattle.std.specs.Prelude.{◌≡◌, ◌↔◌, ◌⊎◌, ℕ, get_or}
+use Rattle.std.specs.Prelude.{◌≡◌, ◌↔◌, ◌⊎◌, ℕ, get_or, Ok}
 use mathlib.Core.List.{List, [], ◌∷◌, Memᴰ}
-use Rattle.journeys.specs.Journey.{Contact, Contacts, Same}
+use Rattle.journeys.specs.declared.Contact.{Contact}
+use Rattle.journeys.specs.Journey.{Contacts, Same}
 use Rattle.words.specs.Words.{opening_word}
-use Rattle.rules.specs.declared.OpenAnswer.TheVariants.{Opened}
 use Rattle.rules.specs.Checks.{ValidTable}
 use Rattle.rules.specs.Opening.{open_answer, open_leaves}
 use Rattle.rules.specs.Adding.{add_leaves}
@@ -58,7 +58,7 @@ module _ (n τ δ : ℕ) where
 
 -- From an accepted opening, after any list of such calls, refused ones included, the table is fresh over the contacts that they leave.
 pub record TableCalls : Type 1 where
-  pub fresh_after : (n τ δ : ℕ) (words : List ℕ) (A : List TableCall) → open_answer n τ δ words ≡ Opened → Fresh n τ δ (ContactsLeft n τ δ (λ k. ⊥) A) (run_calls (open_leaves n τ δ words) A)
+  pub fresh_after : (n τ δ : ℕ) (words : List ℕ) (A : List TableCall) → open_answer n τ δ words ≡ Ok tt → Fresh n τ δ (ContactsLeft n τ δ (λ k. ⊥) A) (run_calls (open_leaves n τ δ words) A)
   -- So two such lists leave equal tables exactly when they leave the same contacts.
-  pub equal_tables : (n τ δ : ℕ) (wordsA wordsB : List ℕ) (A B : List TableCall) → open_answer n τ δ wordsA ≡ Opened → open_answer n τ δ wordsB ≡ Opened
+  pub equal_tables : (n τ δ : ℕ) (wordsA wordsB : List ℕ) (A B : List TableCall) → open_answer n τ δ wordsA ≡ Ok tt → open_answer n τ δ wordsB ≡ Ok tt
       → (run_calls (open_leaves n τ δ wordsA) A ≡ run_calls (open_leaves n τ δ wordsB) B) ↔ Same (ContactsLeft n τ δ (λ k. ⊥) A) (ContactsLeft n τ δ (λ k. ⊥) B)

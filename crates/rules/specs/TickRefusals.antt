@@ -1,14 +1,8 @@
 -- Which tick is out (document 02, Six): when a call is refused with 9, and when one with a window with 19.
-use Rattle.std.specs.Prelude.{ℕ, ◌<◌, ◌≡◌, ◌↔◌, List, length, get_or}
-use Rattle.journeys.specs.Journey.{Contact}
+use Rattle.std.specs.Prelude.{ℕ, ◌<◌, ◌≡◌, ◌↔◌, List, length, get_or, Err, Some}
+use Rattle.journeys.specs.declared.Contact.{Contact}
 use Rattle.rules.specs.declared.Refusal.{Refusal}
 use Rattle.rules.specs.declared.Refusal.TheVariants.{TickOutOfRange, FirstAfterLast}
-use Rattle.rules.specs.declared.AddAnswer.TheVariants.{Refused as AddRefused}
-use Rattle.rules.specs.declared.AskAnswer.TheVariants.{Refused as AskRefused}
-use Rattle.rules.specs.declared.IntervalAnswer.TheVariants.{Refused as IntervalRefused}
-use Rattle.rules.specs.declared.SetAnswer.TheVariants.{Refused as SetRefused}
-use Rattle.rules.specs.declared.ChainAnswer.TheVariants.{Refused as ChainRefused}
-use Rattle.rules.specs.declared.RecordAnswer.TheVariants.{Refused as RecordRefused}
 use Rattle.rules.specs.declared.Question.{Question}
 use Rattle.rules.specs.Answers.{number_of}
 use Rattle.rules.specs.Layout.{animals, ticks}
@@ -33,18 +27,18 @@ pub record WindowJudged (τ first last : ℕ) (before : Type 0) (refused : Refus
 -- On any words, of any numbers.
 pub record TickRefusals : Type 0 where
   -- The calls with one tick, that of a contact or of a question.
-  pub add : (T : List ℕ) (k : Contact) → (add_answer T k ≡ AddRefused TickOutOfRange) ↔ (TablePair T k.from k.to × OutOfRange (ticks T) k.tick)
-  pub earliest : (T : List ℕ) (u v first : ℕ) → (earliest_answer T u v first ≡ IntervalRefused TickOutOfRange) ↔ (TablePair T u v × OutOfRange (last_arrival T) first)
-  pub latest : (T : List ℕ) (u v last : ℕ) → (latest_answer T u v last ≡ IntervalRefused TickOutOfRange) ↔ (TablePair T u v × OutOfRange (last_arrival T) last)
+  pub add : (T : List ℕ) (k : Contact) → (add_answer T k ≡ Err TickOutOfRange) ↔ (TablePair T k.from k.to × OutOfRange (ticks T) k.tick)
+  pub earliest : (T : List ℕ) (u v first : ℕ) → (earliest_answer T u v first ≡ Err TickOutOfRange) ↔ (TablePair T u v × OutOfRange (last_arrival T) first)
+  pub latest : (T : List ℕ) (u v last : ℕ) → (latest_answer T u v last ≡ Err TickOutOfRange) ↔ (TablePair T u v × OutOfRange (last_arrival T) last)
   -- The calls with a window.
-  pub reach : (T : List ℕ) (u v first last : ℕ) → WindowJudged (ticks T) first last (TablePair T u v) (λ r. reach_answer T u v first last ≡ AskRefused r)
-  pub connected : (T : List ℕ) (first last : ℕ) → WindowJudged (ticks T) first last (ValidTable T) (λ r. connected_answer T first last ≡ AskRefused r)
-  pub reached : (T : List ℕ) (u first last : ℕ) → WindowJudged (ticks T) first last (ValidTable T × (u < animals T)) (λ r. reached_answer T u first last ≡ SetRefused r)
+  pub reach : (T : List ℕ) (u v first last : ℕ) → WindowJudged (ticks T) first last (TablePair T u v) (λ r. reach_answer T u v first last ≡ Err r)
+  pub connected : (T : List ℕ) (first last : ℕ) → WindowJudged (ticks T) first last (ValidTable T) (λ r. connected_answer T first last ≡ Err r)
+  pub reached : (T : List ℕ) (u first last : ℕ) → WindowJudged (ticks T) first last (ValidTable T × (u < animals T)) (λ r. reached_answer T u first last ≡ Err r)
   -- Whatever the length of the buffer, which is judged by 10 behind them.
   pub chain : (T : List ℕ) (u v first last : ℕ) (B : List ℕ)
-      → WindowJudged (ticks T) first last (TablePair T u v) (λ r. chain_answer T u v first last B ≡ ChainRefused r)
+      → WindowJudged (ticks T) first last (TablePair T u v) (λ r. chain_answer T u v first last B ≡ Err r)
   pub claimed : (T : List ℕ) (u v first last : ℕ) (ws : List ℕ)
-      → WindowJudged (ticks T) first last (TablePair T u v) (λ r. claimed_answer T u v first last ws ≡ AskRefused r)
+      → WindowJudged (ticks T) first last (TablePair T u v) (λ r. claimed_answer T u v first last ws ≡ Err r)
   -- Each record of a list that is answered holds the number.
   pub each_record : (T : List ℕ) → ValidTable T → (l : List Question) (i : ℕ) → i < length l → (d : Question)
-      → WindowJudged (ticks T) (get_or l i d).first (get_or l i d).last (IsPair (animals T) (get_or l i d).from (get_or l i d).to) (λ r. (get_or (list_leaves T l) i d).answer ≡ RecordRefused (number_of r))
+      → WindowJudged (ticks T) (get_or l i d).first (get_or l i d).last (IsPair (animals T) (get_or l i d).from (get_or l i d).to) (λ r. (get_or (list_leaves T l) i d).answer ≡ Some (Err (number_of r)))

@@ -1,7 +1,8 @@
 -- Windows (document 01, "Questions"; document 02, Five and Six): their ticks, what it is to fit one, single ticks, and pairs of animals.
-use Rattle.std.specs.Prelude.{ℕ, ◌+◌, ◌≤◌, ◌<◌, ◌≢◌, ◌⊎◌, Bool, ◌&&◌, List, leb}
-use mathlib.Core.Option.{Option}
-use Rattle.journeys.specs.Journey.{Contact, Contacts, Interval, interval, Inside, Journey}
+use Rattle.std.specs.Prelude.{ℕ, ◌+◌, ◌≤◌, ◌<◌, ◌≢◌, ◌⊎◌, Bool, ◌&&◌, List, leb, Option}
+use Rattle.journeys.specs.declared.Contact.{Contact}
+use Rattle.journeys.specs.declared.Interval.{Interval}
+use Rattle.journeys.specs.Journey.{Contacts, interval, Inside, Journey}
 use Rattle.journeys.specs.Cell.{inside}
 use Rattle.rules.specs.declared.Refusal.{Refusal}
 use Rattle.rules.specs.declared.Refusal.TheVariants.{TickOutOfRange, FirstAfterLast}

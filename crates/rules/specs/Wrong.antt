@@ -1,18 +1,15 @@
 -- Wrong engines that demands 2 and 3 shut out (document 01, last paragraph: "Reject"; removals, document 02, Seven).
-use Rattle.std.specs.Prelude.{ℕ, ◌+◌, Bool, true, false, cond, not, ◌&&◌, ◌||◌, List, [], ◌∷◌, ◌++◌, length, get_or, drop, eqb}
-use mathlib.Core.Option.{Option, none, some}
-use Rattle.journeys.specs.Journey.{Contact, Interval, interval}
+use Rattle.std.specs.Prelude.{ℕ, ◌+◌, Bool, true, false, cond, not, ◌&&◌, ◌||◌, List, [], ◌∷◌, ◌++◌, length, get_or, drop, eqb, Option, None, Some, Ok, Err, Result, ⊤}
+use Rattle.journeys.specs.declared.Contact.{Contact}
+use Rattle.journeys.specs.declared.Interval.{Interval}
+use Rattle.journeys.specs.Journey.{interval}
 use Rattle.journeys.specs.Cell.{Cell, put_in_order, enter}
 use Rattle.journeys.specs.Adding.{Cells, departure_of, arrival_of, enter_both, cells_over}
 use Rattle.rules.specs.declared.Refusal.{Refusal}
 use Rattle.rules.specs.declared.Refusal.TheVariants.{AnimalsBeyondLimit, NoSuchAnimal, NotHeld}
-use Rattle.rules.specs.declared.OpenAnswer.{OpenAnswer}
-use Rattle.rules.specs.declared.OpenAnswer.TheVariants.{Refused as OpenRefused}
-use Rattle.rules.specs.declared.AddAnswer.{AddAnswer}
-use Rattle.rules.specs.declared.AddAnswer.TheVariants.{New, Known, Refused as AddRefused}
-use Rattle.rules.specs.declared.DoneAnswer.{DoneAnswer}
-use Rattle.rules.specs.declared.DoneAnswer.TheVariants.{Done, Refused as DoneRefused}
-use Rattle.rules.specs.Answers.{unless, add_answer_of, done_answer_of}
+use Rattle.rules.specs.declared.Added.{Added}
+use Rattle.rules.specs.declared.Added.TheVariants.{New, Known}
+use Rattle.rules.specs.Answers.{unless, answer_of, done}
 use Rattle.rules.specs.Folds.{all_below}
 use Rattle.rules.specs.Layout.{table_words, animals, ticks, carry, cells_of}
 use Rattle.rules.specs.Checks.{ensure_table}
@@ -26,12 +23,12 @@ use Rattle.rules.specs.Demand3.{Demand3}
 
 -- The part that is given, else document 01's.
 abbrev pub given : {A : Type 0} → Option A → A → A
-given none a = a
-given (some b) a = b
+given None a = a
+given (Some b) a = b
 
 -- The engine of document 01, but for the parts that are given: what an opening answers and leaves, what an add answers and leaves, and what
 -- a log leaves.
-abbrev pub engine_but : Option (ℕ → ℕ → ℕ → List ℕ → OpenAnswer) → Option (ℕ → ℕ → ℕ → List ℕ → List ℕ) → Option (List ℕ → Contact → AddAnswer)
+abbrev pub engine_but : Option (ℕ → ℕ → ℕ → List ℕ → Result ⊤ Refusal) → Option (ℕ → ℕ → ℕ → List ℕ → List ℕ) → Option (List ℕ → Contact → Result Added Refusal)
     → Option (List ℕ → Contact → List ℕ) → Option (List ℕ → List ℕ → List ℕ) → Engine
 engine_but opens opened adds added written =
     record {
@@ -48,15 +45,15 @@ engine_but opens opened adds added written =
 
 -- Another rule for what an add leaves, for what it answers, and for the contacts of a log.
 abbrev with_leaves : (List ℕ → Contact → List ℕ) → Engine
-with_leaves f = engine_but none none none (some f) none
+with_leaves f = engine_but None None None (Some f) None
 
-abbrev with_answer : (List ℕ → Contact → AddAnswer) → Engine
-with_answer f = engine_but none none (some f) none none
+abbrev with_answer : (List ℕ → Contact → Result Added Refusal) → Engine
+with_answer f = engine_but None None (Some f) None None
 
 abbrev with_log : (List Contact → List Contact) → Engine
 with_log f =
-    engine_but none none none none
-    (some (λ T B. unless (write_refusal T B) (log_words (get_or T 0 0) (f (held_contacts T)) ++ drop (length (f (held_contacts T)) + 2) B) B))
+    engine_but None None None None
+    (Some (λ T B. unless (write_refusal T B) (log_words (get_or T 0 0) (f (held_contacts T)) ++ drop (length (f (held_contacts T)) + 2) B) B))
 
 -- The engine with another rule for the cells of n animals after a contact.
 abbrev with_cells : (ℕ → ℕ → Cells → Contact → Cells) → Engine
@@ -74,15 +71,15 @@ lone_contacts = with_cells (λ n δ T k x y. cond (eqb x k.from && eqb y k.to) (
 
 -- Only earlier journeys joined: e(y) exists for v alone.
 abbrev pub joins_earlier : Engine
-joins_earlier = with_cells (λ n δ T k x y. cond (eqb x y) (T x y) (enter_both (departure_of T k x) (cond (eqb y k.to) (some (k.tick + δ)) none) (T x y)))
+joins_earlier = with_cells (λ n δ T k x y. cond (eqb x y) (T x y) (enter_both (departure_of T k x) (cond (eqb y k.to) (Some (k.tick + δ)) None) (T x y)))
 
 -- Only later journeys joined: d(x) exists for u alone.
 abbrev pub joins_later : Engine
-joins_later = with_cells (λ n δ T k x y. cond (eqb x y) (T x y) (enter_both (cond (eqb x k.from) (some k.tick) none) (arrival_of δ T k y) (T x y)))
+joins_later = with_cells (λ n δ T k x y. cond (eqb x y) (T x y) (enter_both (cond (eqb x k.from) (Some k.tick) None) (arrival_of δ T k y) (T x y)))
 
 abbrev exists : Option ℕ → Bool
-exists none = false
-exists (some t) = true
+exists None = false
+exists (Some t) = true
 
 -- Some pair of x with one of the first m animals gets an interval.
 abbrev some_below : ℕ → Cells → Contact → ℕ → ℕ → Bool
@@ -107,23 +104,23 @@ changed T k = cells_changed (animals T) (cells_of T) (added_cells T k)
 
 -- A changed-cell count that is always 1.
 abbrev pub counts_one : Engine
-counts_one = with_answer (λ T k. add_answer_of (add_refusal T k) (cond (holds T k) (Known 1) (New 1)))
+counts_one = with_answer (λ T k. answer_of (add_refusal T k) (Ok (cond (holds T k) (Known 1) (New 1))))
 
 -- Known every time.
 abbrev pub always_known : Engine
-always_known = with_answer (λ T k. add_answer_of (add_refusal T k) (Known (changed T k)))
+always_known = with_answer (λ T k. answer_of (add_refusal T k) (Ok (Known (changed T k))))
 
 -- New every time.
 abbrev pub always_new : Engine
-always_new = with_answer (λ T k. add_answer_of (add_refusal T k) (New (changed T k)))
+always_new = with_answer (λ T k. answer_of (add_refusal T k) (Ok (New (changed T k))))
 
 -- Refusal of every add.
 abbrev pub refuses_adds : Engine
-refuses_adds = with_answer (λ T k. AddRefused NoSuchAnimal)
+refuses_adds = with_answer (λ T k. Err NoSuchAnimal)
 
 -- Refusal of every opening.
 abbrev pub refuses_openings : Engine
-refuses_openings = engine_but (some (λ n τ δ T. OpenRefused AnimalsBeyondLimit)) (some (λ n τ δ T. T)) none none none
+refuses_openings = engine_but (Some (λ n τ δ T. Err AnimalsBeyondLimit)) (Some (λ n τ δ T. T)) None None None
 
 -- ---- what a log lists
 
@@ -142,7 +139,7 @@ repeats_in_log = with_log (λ l. l ++ l)
 -- ---- what a removal answers and leaves
 
 -- The engine of documents 01 and 02, but for what a removal answers, what it leaves of the first table and what of the second.
-abbrev removes_by : (List ℕ → List ℕ → Contact → DoneAnswer) → (List ℕ → List ℕ → Contact → List ℕ) → (List ℕ → List ℕ → Contact → List ℕ) → Engine
+abbrev removes_by : (List ℕ → List ℕ → Contact → Result ⊤ Refusal) → (List ℕ → List ℕ → Contact → List ℕ) → (List ℕ → List ℕ → Contact → List ℕ) → Engine
 removes_by answer left work =
     record {
       open_answer = engine.open_answer;
@@ -199,25 +196,25 @@ leaves_work = removes_by remove_answer remove_leaves (λ T W k. W)
 
 -- Refusal of every removal.
 abbrev pub refuses_removals : Engine
-refuses_removals = removes_by (λ T W k. DoneRefused NotHeld) (λ T W k. T) (λ T W k. W)
+refuses_removals = removes_by (λ T W k. Err NotHeld) (λ T W k. T) (λ T W k. W)
 
 -- The checks but that of the contact, and but that of the second table's length.
 abbrev unheld_refusal : List ℕ → List ℕ → Contact → Option Refusal
-unheld_refusal T W k = ensure_table T (ensure_same_length T W (ensure_pair T k.from k.to (ensure_tick T k.tick none)))
+unheld_refusal T W k = ensure_table T (ensure_same_length T W (ensure_pair T k.from k.to (ensure_tick T k.tick None)))
 
 abbrev long_refusal : List ℕ → List ℕ → Contact → Option Refusal
-long_refusal T W k = ensure_table T (ensure_pair T k.from k.to (ensure_tick T k.tick (ensure_held T k none)))
+long_refusal T W k = ensure_table T (ensure_pair T k.from k.to (ensure_tick T k.tick (ensure_held T k None)))
 
 -- One that is done with a contact that is not held.
 abbrev pub removes_unheld : Engine
 removes_unheld =
-    removes_by (λ T W k. done_answer_of (unheld_refusal T W k) Done) (λ T W k. unless (unheld_refusal T W k) (table_without T k) T)
+    removes_by (λ T W k. answer_of (unheld_refusal T W k) done) (λ T W k. unless (unheld_refusal T W k) (table_without T k) T)
     (λ T W k. unless (unheld_refusal T W k) (table_without T k) W)
 
 -- One that takes a second table of any length.
 abbrev pub removes_any_length : Engine
 removes_any_length =
-    removes_by (λ T W k. done_answer_of (long_refusal T W k) Done) (λ T W k. unless (long_refusal T W k) (table_without T k) T)
+    removes_by (λ T W k. answer_of (long_refusal T W k) done) (λ T W k. unless (long_refusal T W k) (table_without T k) T)
     (λ T W k. unless (long_refusal T W k) (table_without T k) W)
 
 -- None of them meets demand 3.

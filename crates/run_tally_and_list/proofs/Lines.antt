@@ -1,6 +1,6 @@
 -- A number and the byte behind it have room in the text, and the reply of a list fits.
+use Rattle.std.specs.Prelude.{Option, None, Some, Ok, Result}
 use mathlib.Core.Path.{◌≡◌, sym, subst}
-use mathlib.Core.Option.{Option, none, some}
 use Prim.Native.Nat.{ℕ, ◌+◌, ◌-◌, ◌≤◌, ◌<◌, ◌^◌}
 use mathlib.Core.List.{List, [], ◌∷◌, ◌++◌}
 use lib.ListN.{length, take, drop, length-append, length-take, length-drop}
@@ -8,9 +8,8 @@ use lib.Seq.{length-take-le}
 use native.Mathlib.Omega.{arith}
 use Rattle.rules.specs.declared.Refusal.{Refusal}
 use Rattle.rules.specs.declared.Question.{Question}
-use Rattle.rules.specs.declared.ListAnswer.{ListAnswer}
-use Rattle.rules.specs.Answers.{list_reply}
-use Rattle.rules.specs.QuestionList.{list_refusal, list_answer_of, list_answer}
+use Rattle.rules.specs.Answers.{number_reply, answer_of}
+use Rattle.rules.specs.QuestionList.{list_refusal, list_answer}
 use Rattle.rules.specs.Sheet.{decimal}
 use Rattle.table_text.proofs.Lengths.{digits, number_small}
 use Rattle.question_lists.specs.Plans.{most_records}
@@ -21,15 +20,15 @@ pub number_short : (n b : ℕ) → n < 2 ^ 32 → length (decimal n ++ (b ∷ []
 number_short n b h = omega (arith, length-append (decimal n) (b ∷ []), digits 9 n (omega arith))
 
 -- So they fit behind what the text holds.
-pub number_fits : (n b from : ℕ) (out : List ℕ) → n < 2 ^ 32 → from + most_number ≤ most_text → most_text ≤ length out → length (decimal n ++ (b ∷ [])) ≤ length (take (length out - from) (drop from out))
+pub number_fits : (n b from : ℕ) (out : List ℕ) → n < 2 ^ 32 → from + most_number ≤ most_text → length out ≡ most_text → length (decimal n ++ (b ∷ [])) ≤ length (take (most_text - from) (drop from out))
 number_fits n b from out h r l =
-    omega (arith, number_short n b h, length-take-le (length out - from) (drop from out) (omega (arith, length-drop from out)))
+    omega (arith, number_short n b h, length-take-le (most_text - from) (drop from out) (omega (arith, length-drop from out)))
 
 -- The reply of a list within the array fits.
-pub reply-fits : (T : List ℕ) (l : List Question) (k : ℕ) (a : ListAnswer) → a ≡ list_answer T (take k l) → k ≤ most_records → list_reply a < 2 ^ 64
+pub reply-fits : (T : List ℕ) (l : List Question) (k : ℕ) (a : Result ℕ Refusal) → a ≡ list_answer T (take k l) → k ≤ most_records → number_reply a < 2 ^ 64
 unfolding list_answer
-reply-fits T l k a e h = subst (λ (b : ListAnswer). list_reply b < 2 ^ 64) (sym e) (go (list_refusal T))
+reply-fits T l k a e h = subst (λ (b : Result ℕ Refusal). number_reply b < 2 ^ 64) (sym e) (go (list_refusal T))
   where
-    go : (o : Option Refusal) → list_reply (list_answer_of o (length (take k l))) < 2 ^ 64
-    go none = omega (arith, length-take k l)
-    go (some r) = omega (arith, number_small r)
+    go : (o : Option Refusal) → number_reply (answer_of o (Ok (length (take k l)))) < 2 ^ 64
+    go None = omega (arith, length-take k l)
+    go (Some r) = omega (arith, number_small r)

@@ -1,80 +1,22 @@
 // The commands on a table, a memory lent for work, a tally and a list of question records.
-ghost use Rattle.std.specs.Prelude.{◌≡◌, length, IfOk};
-ghost use Rattle.run_tally_and_list.specs.Bounds.{most_table, Within};
-
 use crate::input::Command;
 use crate::output;
-use question_lists::MOST_RECORDS;
-use rules::{Question, RecordAnswer, Tally};
+use crate::state::State;
 use std::io;
-
-// What the commands are run on: the number of words that are the table, the tally, and an array of records with the number
-// of those that are the list; and whether the commands have ended.
-#[derive(Clone, Copy)]
-pub struct State {
-    pub length: usize,
-    pub tally: Tally,
-    pub records: [Question; MOST_RECORDS],
-    pub count: usize,
-    pub ended: bool,
-}
-
-// A record that is not asked yet.
-fn unasked(from: u32, to: u32, first: u32, last: u32) -> Question {
-    Question {
-        from,
-        to,
-        first,
-        last,
-        answer: RecordAnswer::Unasked,
-    }
-}
-
-impl State {
-    // The words of each memory: the table of 8 animals and 64 ticks.
-    pub const MOST_TABLE: usize = 4161;
-
-    // No table, a zero tally and an empty list.
-    pub(crate) fn at_start() -> State
-        ensures { Within result }
-    {
-        State {
-            length: 0,
-            tally: Tally {
-                new: 0,
-                known: 0,
-                refused: 0,
-                removed: 0,
-            },
-            records: [unasked(0, 0, 0, 0); MOST_RECORDS],
-            count: 0,
-            ended: false,
-        }
-    }
-}
+use std::ops::ControlFlow;
 
 // Writes the text, and ends the commands.
-pub(crate) fn stop(rt: &impl Print, state: State, text: &[u8]) -> io::Result<State>
-    requires { Within state }
-    ensures { IfOk result Within }
-{
+pub(crate) fn stop(rt: &impl Print, text: &[u8]) -> io::Result<ControlFlow<(), State>> {
     output::print(rt, text)?;
-    let mut next = state;
-    next.ended = true;
-    Ok(next)
+    Ok(ControlFlow::Break(()))
 }
 
-// The first `length` words of the first memory are the table from now on.
-fn lend(rt: &impl Print, state: State, length: u32) -> io::Result<State>
-    requires { Within state }
-    ensures { IfOk result Within }
-{
-    if length as usize > State::MOST_TABLE {
-        return stop(rt, state, b"too large\n");
+// Goes on with the state; where there is none, something was too large.
+fn go_on(rt: &impl Print, next: Option<State>) -> io::Result<ControlFlow<(), State>> {
+    match next {
+        Some(state) => Ok(ControlFlow::Continue(state)),
+        None => stop(rt, b"too large\n"),
     }
-    let mut next = state;
-    next.length = length as usize;
-    Ok(next)
 }
 
 // Word `at` of a memory becomes `word`.
@@ -84,85 +26,45 @@ fn put_word(
     state: State,
     at: u32,
     word: u32,
-) -> io::Result<State>
-    requires { (most_table ≡ length memory.old) × Within state }
-    ensures { IfOk result Within }
-{
-    if at as usize >= State::MOST_TABLE {
-        return stop(rt, state, b"too large\n");
-    }
-    memory[at as usize] = word;
-    Ok(state)
+) -> io::Result<ControlFlow<(), State>> {
+    let Some(place) = memory.get_mut(at as usize) else {
+        return stop(rt, b"too large\n");
+    };
+    *place = word;
+    Ok(ControlFlow::Continue(state))
 }
 
 // Opens the table, and writes the reply.
-fn open_lent(
+fn open(
     rt: &impl Print,
     table: &mut [u32],
     state: State,
     animals: u32,
     ticks: u32,
     carry: u32,
-) -> io::Result<State>
-    requires { Within state }
-    ensures { IfOk result Within }
-{
+) -> io::Result<ControlFlow<(), State>> {
     let answer = engine::open_table(table, animals, ticks, carry);
-    output::print_reply(rt, replies::of_open(answer))?;
-    Ok(state)
+    output::print_reply(rt, replies::of_done(answer))?;
+    Ok(ControlFlow::Continue(state))
 }
 
-// Writes the words of the table.
-fn show(rt: &impl Print, table: &[u32], state: State) -> io::Result<State>
-    requires { Within state }
-    ensures { IfOk result Within }
-{
-    output::print_numbers(rt, table)?;
-    Ok(state)
+// Writes the words.
+fn show(rt: &impl Print, words: &[u32], state: State) -> io::Result<ControlFlow<(), State>> {
+    output::print_numbers(rt, words)?;
+    Ok(ControlFlow::Continue(state))
 }
 
 // Writes the first `count` words of the second memory.
-fn show_work(rt: &impl Print, work: &[u32], state: State, count: u32) -> io::Result<State>
-    requires { (most_table ≡ length work.now) × Within state }
-    ensures { IfOk result Within }
-{
-    let shown = count as usize;
-    if shown > State::MOST_TABLE {
-        return stop(rt, state, b"too large\n");
-    }
-    output::print_numbers(rt, &work[..shown])?;
-    Ok(state)
-}
-
-// The state with this tally.
-fn with_tally(state: State, tally: Tally) -> State
-    requires { Within state }
-    ensures { Within result }
-{
-    let records = state.records;
-    State {
-        length: state.length,
-        tally,
-        records,
-        count: state.count,
-        ended: state.ended,
-    }
-}
-
-// The tally becomes these numbers.
-fn set_tally(state: State, new: u32, known: u32, refused: u32, removed: u32) -> State
-    requires { Within state }
-    ensures { Within result }
-{
-    with_tally(
-        state,
-        Tally {
-            new,
-            known,
-            refused,
-            removed,
-        },
-    )
+fn show_work(
+    rt: &impl Print,
+    work: &[u32],
+    state: State,
+    count: u32,
+) -> io::Result<ControlFlow<(), State>> {
+    let Some(shown) = work.get(..count as usize) else {
+        return stop(rt, b"too large\n");
+    };
+    show(rt, shown, state)
 }
 
 // Makes the counted add, and writes the reply and the tally afterwards.
@@ -170,147 +72,69 @@ fn add(
     rt: &impl Print,
     table: &mut [u32],
     state: State,
-    u: u32,
-    v: u32,
-    t: u32,
-) -> io::Result<State>
-    requires { Within state }
-    ensures { IfOk result Within }
-{
-    let counted = counted_adds::counted_by_value(table, state.tally, u, v, t);
-    let answer = counted.answer;
-    output::print_counted(rt, replies::of_add(answer), counted.tally)?;
-    Ok(with_tally(state, counted.tally))
+    from: u32,
+    to: u32,
+    tick: u32,
+) -> io::Result<ControlFlow<(), State>> {
+    let counted = counted_adds::counted_by_value(table, state.tally, from, to, tick);
+    output::print_counted(rt, replies::of_add(counted.answer), counted.tally)?;
+    Ok(ControlFlow::Continue(state.with_tally(counted.tally)))
 }
 
-// Makes the counted removal with the first d words of the second memory lent for work, and writes the reply and the tally
-// afterwards.
+// Makes the counted removal with the words lent for work, and writes the reply and the tally afterwards.
 fn remove(
     rt: &impl Print,
     table: &mut [u32],
-    work: &mut [u32],
-    state: State,
-    command: Command,
-) -> io::Result<State>
-    requires { (most_table ≡ length work.old) × Within state }
-    ensures { IfOk result Within }
-{
-    let lent = command.d as usize;
-    if lent > State::MOST_TABLE {
-        return stop(rt, state, b"too large\n");
-    }
-    let removed = counted_removals::removed_by_value(
-        table,
-        &mut work[..lent],
-        state.tally,
-        command.a,
-        command.b,
-        command.c,
-    );
-    let answer = removed.answer;
-    output::print_counted(rt, replies::of_done(answer), removed.tally)?;
-    Ok(with_tally(state, removed.tally))
-}
-
-// The list has one record more, which is not asked yet.
-fn put_record(
-    rt: &impl Print,
+    lent: &mut [u32],
     state: State,
     from: u32,
     to: u32,
-    first: u32,
-    last: u32,
-) -> io::Result<State>
-    requires { Within state }
-    ensures { IfOk result Within }
-{
-    let count = state.count;
-    if count >= MOST_RECORDS {
-        return stop(rt, state, b"too large\n");
-    }
-    let mut next = state;
-    next.records[count] = unasked(from, to, first, last);
-    next.count = count + 1;
-    Ok(next)
+    tick: u32,
+) -> io::Result<ControlFlow<(), State>> {
+    let removed = counted_removals::removed_by_value(table, lent, state.tally, from, to, tick);
+    output::print_counted(rt, replies::of_done(removed.answer), removed.tally)?;
+    Ok(ControlFlow::Continue(state.with_tally(removed.tally)))
 }
 
 // Asks the list, and writes the reply and each record afterwards.
-fn ask(rt: &impl Print, table: &[u32], state: State) -> io::Result<State>
-    requires { Within state }
-    ensures { IfOk result Within }
-{
+fn ask(rt: &impl Print, table: &[u32], state: State) -> io::Result<ControlFlow<(), State>> {
     let count = state.count;
-    let before = state.records;
-    let tally = state.tally;
-    let asked = question_lists::ask_first(table, before, count);
-    let answer = asked.answer;
-    output::print_reply(rt, replies::of_list(answer))?;
+    let asked = question_lists::ask_first(table, state.records, count);
+    output::print_reply(rt, replies::of_list(asked.answer))?;
     let records = asked.list;
-    output::print_records(rt, records, count)?;
-    Ok(State {
-        length: state.length,
-        tally,
-        records,
-        count,
-        ended: state.ended,
-    })
-}
-
-// The list is empty.
-fn clear(state: State) -> State
-    requires { Within state }
-    ensures { Within result }
-{
-    let mut next = state;
-    next.count = 0;
-    next
-}
-
-// Runs a command on the table, the tally or the list.
-fn run_on(rt: &impl Print, table: &mut [u32], state: State, command: Command) -> io::Result<State>
-    requires { Within state }
-    ensures { IfOk result Within }
-{
-    let which = command.which;
-    match which {
-        3 => open_lent(rt, table, state, command.a, command.b, command.c),
-        4 => Ok(set_tally(state, command.a, command.b, command.c, command.d)),
-        5 => add(rt, table, state, command.a, command.b, command.c),
-        6 => Ok(clear(state)),
-        7 => put_record(rt, state, command.a, command.b, command.c, command.d),
-        8 => ask(rt, table, state),
-        9 => show(rt, table, state),
-        _ => stop(rt, state, b"no such command\n"),
-    }
+    output::print_records(rt, &records[..count])?;
+    Ok(ControlFlow::Continue(state.with_records(records)))
 }
 
 // Runs the command.
 pub(crate) fn run(
     rt: &impl Print,
-    memory: &mut [u32],
-    work: &mut [u32],
+    memory: &mut [u32; State::MOST_TABLE],
+    work: &mut [u32; State::MOST_TABLE],
     state: State,
     command: Command,
-) -> io::Result<State>
-    requires { (most_table ≡ length memory.old) × ((most_table ≡ length work.old) × Within state) }
-    ensures { IfOk result Within }
-{
-    let which = command.which;
-    if which == 1 {
-        return lend(rt, state, command.a);
+) -> io::Result<ControlFlow<(), State>> {
+    let end = state.length;
+    match command {
+        Command::Table(length) => go_on(rt, state.with_length(length)),
+        Command::Word(at, word) => put_word(rt, memory, state, at, word),
+        Command::Open(animals, ticks, carry) => {
+            open(rt, &mut memory[..end], state, animals, ticks, carry)
+        }
+        Command::Tally(tally) => Ok(ControlFlow::Continue(state.with_tally(tally))),
+        Command::Add(from, to, tick) => add(rt, &mut memory[..end], state, from, to, tick),
+        Command::Clear => Ok(ControlFlow::Continue(state.cleared())),
+        Command::Record(record) => go_on(rt, state.with_record(record)),
+        Command::Ask => ask(rt, &memory[..end], state),
+        Command::Show => show(rt, &memory[..end], state),
+        Command::Remove(from, to, tick, count) => {
+            let Some(lent) = work.get_mut(..count as usize) else {
+                return stop(rt, b"too large\n");
+            };
+            remove(rt, &mut memory[..end], lent, state, from, to, tick)
+        }
+        Command::WorkWord(at, word) => put_word(rt, work, state, at, word),
+        Command::ShowWork(count) => show_work(rt, work, state, count),
+        Command::Unknown => stop(rt, b"no such command\n"),
     }
-    if which == 2 {
-        return put_word(rt, memory, state, command.a, command.b);
-    }
-    if which == 11 {
-        return put_word(rt, work, state, command.a, command.b);
-    }
-    if which == 12 {
-        return show_work(rt, work, state, command.a);
-    }
-    let length = state.length;
-    if which == 10 {
-        return remove(rt, &mut memory[..length], work, state, command);
-    }
-    run_on(rt, &mut memory[..length], state, command)
 }

@@ -25,14 +25,13 @@
 mod commands;
 mod input;
 mod output;
+mod state;
 
-ghost use Rattle.std.specs.Prelude.{◌≡◌, length, IfOk};
-ghost use Rattle.run_tally_and_list.specs.Bounds.{most_table, Within};
-
-use commands::State;
 use input::{Command, Next};
+use state::State;
 use std::io;
 use std::io::Read;
+use std::ops::ControlFlow;
 
 // The most commands that are run.
 const MOST_COMMANDS: u32 = 1_000_000;
@@ -40,17 +39,14 @@ const MOST_COMMANDS: u32 = 1_000_000;
 // Runs the command that has this many before it, unless these are the most.
 fn run_within(
     rt: &impl Print,
-    memory: &mut [u32],
-    work: &mut [u32],
+    memory: &mut [u32; State::MOST_TABLE],
+    work: &mut [u32; State::MOST_TABLE],
     state: State,
     command: Command,
     before: u32,
-) -> io::Result<State>
-    requires { (most_table ≡ length memory.old) × ((most_table ≡ length work.old) × Within state) }
-    ensures { IfOk result Within }
-{
+) -> io::Result<ControlFlow<(), State>> {
     if before >= MOST_COMMANDS {
-        return commands::stop(rt, state, b"too many\n");
+        return commands::stop(rt, b"too many\n");
     }
     commands::run(rt, memory, work, state, command)
 }
@@ -59,33 +55,32 @@ fn run_within(
 fn run_next(
     rt: &impl Print,
     reader: &mut impl Read,
-    memory: &mut [u32],
-    work: &mut [u32],
+    memory: &mut [u32; State::MOST_TABLE],
+    work: &mut [u32; State::MOST_TABLE],
     state: State,
     before: u32,
-) -> io::Result<State>
-    requires { (most_table ≡ length memory.old) × ((most_table ≡ length work.old) × Within state) }
-    ensures { IfOk result Within }
-{
-    let next = input::read_command(reader)?;
-    match next {
+) -> io::Result<ControlFlow<(), State>> {
+    match input::read_command(reader)? {
         Next::Whole(command) => run_within(rt, memory, work, state, command, before),
-        Next::CutShort => commands::stop(rt, state, b"cut short\n"),
-        Next::End => commands::stop(rt, state, b""),
+        Next::CutShort => commands::stop(rt, b"cut short\n"),
+        Next::End => commands::stop(rt, b""),
     }
 }
 
 // Runs the commands of the input, one after another, until they end.
-fn run_all(rt: &(impl Input + Print), memory: &mut [u32], work: &mut [u32]) -> io::Result<()>
-    requires { (most_table ≡ length memory.old) × (most_table ≡ length work.old) }
-{
+fn run_all(
+    rt: &(impl Input + Print),
+    memory: &mut [u32; State::MOST_TABLE],
+    work: &mut [u32; State::MOST_TABLE],
+) -> io::Result<()> {
     let mut reader = rt.reader();
     let mut state = State::at_start();
     for before in 0..MOST_COMMANDS + 1 {
-        state = run_next(rt, &mut reader, memory, work, state, before)?;
-        if state.ended {
+        let ControlFlow::Continue(next) = run_next(rt, &mut reader, memory, work, state, before)?
+        else {
             return Ok(());
-        }
+        };
+        state = next;
     }
     Ok(())
 }

@@ -1,9 +1,7 @@
 // What is written: lines of numbers in decimal, with one space between.
-ghost use Rattle.std.specs.Prelude.{◌+◌, ◌≤◌, ◌<◌, length, IfOk};
-ghost use Rattle.question_lists.specs.Plans.{most_records};
+ghost use Rattle.std.specs.Prelude.{◌+◌, ◌≤◌, IfOk};
 ghost use Rattle.run_tally_and_list.specs.Bounds.{most_text, most_number};
 
-use question_lists::MOST_RECORDS;
 use rules::{Question, Tally};
 use std::io;
 
@@ -19,8 +17,8 @@ pub(crate) fn print(rt: &impl Print, text: &[u8]) -> io::Result<()> {
 }
 
 // Writes the first `at` bytes of the text where there is no room for a number behind them; says where one goes.
-fn make_room(rt: &impl Print, text: &[u8], at: usize) -> io::Result<usize>
-    requires { (most_text ≤ length text.now) × (at ≤ most_text) }
+fn make_room(rt: &impl Print, text: &[u8; MOST_TEXT], at: usize) -> io::Result<usize>
+    requires { at ≤ most_text }
     ensures { IfOk result (λ r. r + most_number ≤ most_text) }
 {
     if at + MOST_NUMBER <= MOST_TEXT {
@@ -31,19 +29,18 @@ fn make_room(rt: &impl Print, text: &[u8], at: usize) -> io::Result<usize>
 }
 
 // Puts the number and the byte behind it into the text at `at`, and says where the next goes.
-fn put_number(rt: &impl Print, text: &mut [u8], at: usize, n: u32, behind: u8) -> io::Result<usize>
-    requires { (most_text ≤ length text.old) × (at ≤ most_text) }
+fn put_number(
+    rt: &impl Print,
+    text: &mut [u8; MOST_TEXT],
+    at: usize,
+    n: u32,
+    behind: u8,
+) -> io::Result<usize>
+    requires { at ≤ most_text }
     ensures { IfOk result (λ r. r ≤ most_text) }
 {
     let from = make_room(rt, text, at)?;
     Ok(from + table_text::put_then(n, behind, &mut text[from..]))
-}
-
-// The byte behind number i of n.
-fn byte_behind(i: usize, n: usize) -> u8
-    requires { i < n }
-{
-    if i + 1 < n { b' ' } else { b'\n' }
 }
 
 // Writes the numbers as a line.
@@ -53,9 +50,9 @@ pub(crate) fn print_numbers(rt: &impl Print, numbers: &[u32]) -> io::Result<()> 
     }
     let mut text = [0u8; MOST_TEXT];
     let mut at = 0;
-    for i in 0..numbers.len() {
-        let behind = byte_behind(i, numbers.len());
-        at = put_number(rt, &mut text, at, numbers[i], behind)?;
+    for (i, n) in numbers.iter().enumerate() {
+        let behind = if i + 1 < numbers.len() { b' ' } else { b'\n' };
+        at = put_number(rt, &mut text, at, *n, behind)?;
     }
     print(rt, &text[..at])
 }
@@ -92,8 +89,7 @@ pub(crate) fn print_counted(rt: &impl Print, reply: u64, tally: Tally) -> io::Re
 
 // Writes a record as a line.
 fn print_record(rt: &impl Print, q: Question) -> io::Result<()> {
-    let answer = q.answer;
-    let reply = replies::of_record(answer);
+    let reply = replies::of_record(q.answer);
     print_numbers(
         rt,
         &[
@@ -107,16 +103,10 @@ fn print_record(rt: &impl Print, q: Question) -> io::Result<()> {
     )
 }
 
-// Writes the first `count` records, a line each.
-pub(crate) fn print_records(
-    rt: &impl Print,
-    records: [Question; MOST_RECORDS],
-    count: usize,
-) -> io::Result<()>
-    requires { count ≤ most_records }
-{
-    for i in 0..count {
-        print_record(rt, records[i])?;
+// Writes the records, a line each.
+pub(crate) fn print_records(rt: &impl Print, records: &[Question]) -> io::Result<()> {
+    for q in records {
+        print_record(rt, *q)?;
     }
     Ok(())
 }

@@ -1,4 +1,6 @@
 -- What is printed for the words of a log.
+use Rattle.std.specs.Prelude.{Ok, Err, Result, Some, None, slice_get}
+use Rattle.std.proofs.lemmas.Option.{none-some, get_or_from_slice_get}
 use mathlib.Core.Path.{◌≡◌, refl, sym, ap, ◌∙◌, subst}
 use mathlib.Core.Bool.{Bool, true, false, not, cond, ◌&&◌}
 use mathlib.Core.List.{List, [], ◌∷◌}
@@ -11,87 +13,86 @@ use lib.Dec.{leb, ltb}
 use borrow.Author.Tests.{le-leb, lt-leb, lt-ltb, le-ltb, leb-true, not-false, eq-eqb, ne_eqb}
 use Rattle.journeys.proofs.Tests.{Outcome, holds, fails, le_outcome}
 use Rattle.words.specs.Layout.{is_of}
-use Rattle.words.specs.Words.{opening_layout}
+use Rattle.words.specs.Words.{opening_layout, animals_of, ticks_of}
 use Rattle.rules.specs.declared.Refusal.{Refusal}
 use Rattle.rules.specs.declared.Refusal.TheVariants.{NotALog}
-use Rattle.rules.specs.declared.ReadAnswer.{ReadAnswer}
-use Rattle.rules.specs.declared.ReadAnswer.TheVariants.{Read, Refused}
 use Rattle.rules.specs.Answers.{number_of}
 use Rattle.rules.specs.Layout.{table_length, animals, ticks}
 use Rattle.rules.specs.Checks.{ValidTable}
 use Rattle.rules.specs.Logs.{held_contacts}
 use Rattle.rules.specs.Reading.{is_log, read_refusal, read_answer, read_leaves}
-use Rattle.rules.specs.Sheet.{most_bytes, most_animals, most_ticks, most_text, most_table_words, words_of, is_beyond, read_text, log_text, table_text, refused_text, too_large, not_whole_words, sheet_text}
+use Rattle.rules.specs.Sheet.{most_bytes, most_animals, most_ticks, most_text, most_table_words, words_of, is_beyond, read_text, log_text, refused_text, too_large, not_whole_words, sheet_text}
 use Rattle.rules.proofs.Folds.{and_left, and_right}
 use Rattle.rules.proofs.Demand1.{demand1}
 use Rattle.rules.proofs.LogsRead.{read_held}
-use Rattle.cell_checks.proofs.Checks.{stopped, passed}
 use Rattle.table_text.specs.Lines.{overwrite_front}
 use Rattle.table_text.proofs.Lengths.{sheet_fits}
 use Rattle.sheet_text.specs.Prints.{Prints}
 use Rattle.sheet_text.proofs.Words.{words-length}
 
 -- What is no log is refused as that, whatever the table.
-no-log : (L T : List ℕ) → is_log L ≡ false → read_answer L T ≡ Refused NotALog
+no-log : (L T : List ℕ) → is_log L ≡ false → read_answer L T ≡ Err NotALog
 unfolding read_answer read_refusal
 no-log L T q = rw q refl
 
 -- ---- the limits
 
 -- No words are not beyond the limits.
-pub beyond_none : (L : List ℕ) → length L ≡ 0 → false ≡ is_beyond L
+pub beyond_none : (L : List ℕ) → None ≡ slice_get L 0 → false ≡ is_beyond L
 unfolding is_beyond is_of
 beyond_none [] h = refl
-beyond_none (w ∷ L) h = absurd (omega arith)
+beyond_none (w ∷ L) h = absurd (none-some w h)
 
-module _ (L : List ℕ) (a : Bool) (e : a ≡ is_of opening_layout (get_or L 0 0)) where
-  pub beyond_other : not a ≡ true → false ≡ is_beyond L
+module _ (L : List ℕ) (w : ℕ) (first : Some w ≡ slice_get L 0) where
+  first-word : get_or L 0 0 ≡ w
+  first-word = get_or_from_slice_get L 0 w 0 (sym first)
+
+  -- Another word first is not beyond them.
+  pub beyond_other : (a : Bool) → a ≡ is_of opening_layout w → a ≡ false → a ≡ is_beyond L
   unfolding is_beyond
-  beyond_other h = rw (stopped e h) refl
+  beyond_other a e h = let i : is_of opening_layout w ≡ false = sym e ∙ h in rw (h, first-word, i) refl
 
-  module _ (h : not a ≡ false) (n : ℕ) (p : n ≡ animals L) where
-    pub beyond_animals : most_animals < n → true ≡ is_beyond L
-    unfolding is_beyond
-    beyond_animals k = rw (passed e h, lt-leb (animals L) most_animals (subst (λ i. most_animals < i) p k)) refl
+  module _ (i : true ≡ is_of opening_layout w) where
+    -- After an opening word its animals decide, or its ticks.
+    module _ (n : ℕ) (p : n ≡ animals_of w) where
+      pub beyond_animals : most_animals < n → ltb most_animals n ≡ is_beyond L
+      unfolding is_beyond
+      beyond_animals k =
+          let more : most_animals < animals_of w = subst (λ m. most_animals < m) p k in
+          rw (first-word, sym i, lt-leb (animals_of w) most_animals more) (lt-ltb most_animals n k)
 
-    pub beyond_ticks : n ≤ most_animals → (τ : ℕ) → τ ≡ ticks L → ltb most_ticks τ ≡ is_beyond L
+      pub beyond_ticks : n ≤ most_animals → (τ : ℕ) → τ ≡ ticks_of w → ltb most_ticks τ ≡ is_beyond L
+      unfolding is_beyond
+      beyond_ticks k τ q =
+          let few : animals_of w ≤ most_animals = subst (λ m. m ≤ most_animals) p k in
+          rw (first-word, sym i, le-leb (animals_of w) most_animals few, q) (other (ticks_of w))
+        where
+          other : (m : ℕ) → ltb most_ticks m ≡ not (leb m most_ticks)
+          other m = go (le_outcome m most_ticks)
+            where
+              go : {b : Bool} → Outcome (m ≤ most_ticks) (most_ticks < m) b → ltb most_ticks m ≡ not b
+              go (holds k) = le-ltb most_ticks m k
+              go (fails k) = lt-ltb most_ticks m k
+
+    -- Within the limits a table has no more words than the largest.
+    pub size_small : is_beyond L ≡ false → table_length (animals_of w) (ticks_of w) ≤ most_table_words
     unfolding is_beyond
-    beyond_ticks k τ q = rw (passed e h, le-leb (animals L) most_animals (subst (λ i. i ≤ most_animals) p k), q) (other (ticks L))
+    size_small q = go (animals_of w) (ticks_of w) (leb-true (animals_of w) most_animals (and_left (leb (animals_of w) most_animals) (leb (ticks_of w) most_ticks) inside)) (leb-true (ticks_of w) most_ticks (and_right (leb (animals_of w) most_animals) (leb (ticks_of w) most_ticks) inside))
       where
-        other : (i : ℕ) → ltb most_ticks i ≡ not (leb i most_ticks)
-        other i = go (le_outcome i most_ticks)
-          where
-            go : {b : Bool} → Outcome (i ≤ most_ticks) (most_ticks < i) b → ltb most_ticks i ≡ not b
-            go (holds k) = le-ltb most_ticks i k
-            go (fails k) = lt-ltb most_ticks i k
+        beyond : Bool → ℕ → Bool
+        beyond b v = b && not (leb (animals_of v) most_animals && leb (ticks_of v) most_ticks)
+
+        inside : (leb (animals_of w) most_animals && leb (ticks_of w) most_ticks) ≡ true
+        inside = not-false _ (ap (λ b. beyond b w) i ∙ ap (λ v. beyond (is_of opening_layout v) v) (sym first-word) ∙ q)
+
+        go : (n τ : ℕ) → n ≤ most_animals → τ ≤ most_ticks → table_length n τ ≤ most_table_words
+        go n τ k m =
+            let x : n * n ≤ most_animals * most_animals = mul-le-mul {n₂ = most_animals} k k in
+            let t : τ + 1 ≤ most_ticks + 1 = omega arith in
+            let y : n * n * (τ + 1) ≤ most_animals * most_animals * (most_ticks + 1) = mul-le-mul x t in
+            omega arith
 
 -- ---- the table
-
--- What is no log needs no table.
-pub size-short : (L : List ℕ) → length L < 2 → (r : ℕ) → is_log L ≡ true → r ≡ table_length (animals L) (ticks L)
-size-short L h r e = absurd (let k = leb-true 2 (length L) (and_left (leb 2 (length L)) (is_of opening_layout (get_or L 0 0)) e) in omega arith)
-
-untrue : {A : Type 0} → false ≡ true → A
-untrue e = absurd (let z : ◌≡◌ {A = ℕ} 0 1 = ap (λ (b : Bool). cond b 1 0) e in omega arith)
-
-module _ (L : List ℕ) (a : Bool) (e : a ≡ is_of opening_layout (get_or L 0 0)) where
-  pub size-other : not a ≡ true → (r : ℕ) → is_log L ≡ true → r ≡ table_length (animals L) (ticks L)
-  size-other h r q = untrue (sym (stopped e h) ∙ and_right (leb 2 (length L)) (is_of opening_layout (get_or L 0 0)) q)
-
-  -- Within the limits a table has no more words than the largest.
-  pub size_small : not a ≡ false → is_beyond L ≡ false → table_length (animals L) (ticks L) ≤ most_table_words
-  unfolding is_beyond
-  size_small h q = go (animals L) (ticks L) (leb-true (animals L) most_animals (and_left (leb (animals L) most_animals) (leb (ticks L) most_ticks) inside)) (leb-true (ticks L) most_ticks (and_right (leb (animals L) most_animals) (leb (ticks L) most_ticks) inside))
-    where
-      inside : (leb (animals L) most_animals && leb (ticks L) most_ticks) ≡ true
-      inside = not-false _ (subst (λ b. (b && not (leb (animals L) most_animals && leb (ticks L) most_ticks)) ≡ false) (passed e h) q)
-
-      go : (n τ : ℕ) → n ≤ most_animals → τ ≤ most_ticks → table_length n τ ≤ most_table_words
-      go n τ k m =
-          let x : n * n ≤ most_animals * most_animals = mul-le-mul {n₂ = most_animals} k k in
-          let t : τ + 1 ≤ most_ticks + 1 = omega arith in
-          let y : n * n * (τ + 1) ≤ most_animals * most_animals * (most_ticks + 1) = mul-le-mul x t in
-          omega arith
 
 take-replicate : (k m : ℕ) → k ≤ m → take k (replicate {A = ℕ} m 0) ≡ replicate k 0
 take-replicate zero m h = refl
@@ -107,7 +108,7 @@ prints L r h f = go (is_log L) refl
     zeros = replicate {A = ℕ} (table_length (animals L) (ticks L)) 0
 
     refused : is_log L ≡ false → (T : List ℕ) → read_text (read_answer L T) (read_leaves L T) ≡ refused_text (number_of NotALog)
-    refused q T = ap (λ (x : ReadAnswer). read_text x (read_leaves L T)) (no-log L T q)
+    refused q T = ap (λ (x : Result ℕ Refusal). read_text x (read_leaves L T)) (no-log L T q)
 
     go : (b : Bool) → is_log L ≡ b → read_text (read_answer L (take r (replicate {A = ℕ} most_table_words 0))) (read_leaves L (take r (replicate {A = ℕ} most_table_words 0))) ≡ read_text (read_answer L zeros) (read_leaves L zeros)
     go true q = ap (λ (T : List ℕ). read_text (read_answer L T) (read_leaves L T)) (take-replicate r most_table_words h ∙ ap (λ (i : ℕ). replicate {A = ℕ} i 0) (f q))
@@ -115,16 +116,9 @@ prints L r h f = go (is_log L) refl
 
 -- ---- what reading answered
 
-module _ (L T : List ℕ) (g : Prints L T) (x : ReadAnswer) (e : x ≡ read_answer L T) where
-  pub text_refused : (r : Refusal) → x ≡ Refused r → log_text L ≡ refused_text (number_of r)
-  text_refused r q = sym g ∙ ap (λ (y : ReadAnswer). read_text y (read_leaves L T)) (sym e ∙ q)
-
-  module _ (k : ℕ) (q : x ≡ Read k) where
-    pub text_read : (U : List ℕ) → U ≡ read_leaves L T → log_text L ≡ table_text U
-    text_read U f = sym g ∙ ap (λ (y : ReadAnswer). read_text y (read_leaves L T)) (sym e ∙ q) ∙ ap table_text (sym f)
-
-    pub read_table : (U : List ℕ) → U ≡ read_leaves L T → ValidTable U × (k ≡ length (held_contacts U))
-    read_table U f = subst (λ (W : List ℕ). ValidTable W × (k ≡ length (held_contacts W))) (sym f) (demand1.read_valid L T k (sym e ∙ q), read_held L T k (sym e ∙ q))
+-- A table into which a log was read is valid, and holds as many contacts as were answered.
+pub read_table : (L T U : List ℕ) (k : ℕ) → Ok k ≡ read_answer L T → U ≡ read_leaves L T → ValidTable U × (k ≡ length (held_contacts U))
+read_table L T U k e f = subst (λ (W : List ℕ). ValidTable W × (k ≡ length (held_contacts W))) (sym f) (demand1.read_valid L T k (sym e), read_held L T k (sym e))
 
 -- ---- one text for another
 
@@ -142,16 +136,7 @@ room_as s t out e h = subst (λ (x : List ℕ). length x ≤ length out) e h
 abbrev pub words_text : List ℕ → List ℕ
 words_text L = cond (is_beyond L) too_large (log_text L)
 
-pub words-beyond : (L : List ℕ) (b : Bool) → b ≡ is_beyond L → b ≡ true → words_text L ≡ too_large
-words-beyond L b e h = rw (sym e ∙ h) refl
-
-pub words-within : (L : List ℕ) (b : Bool) → b ≡ is_beyond L → b ≡ false → words_text L ≡ log_text L
-words-within L b e h = rw (sym e ∙ h) refl
-
--- The part of a blank table that is lent has its size, and prints the log.
-pub lent-blank : (r : ℕ) (T : List ℕ) → T ≡ replicate {A = ℕ} most_table_words 0 → r ≤ most_table_words → r ≡ length (take r T)
-lent-blank r T e h = sym (length-take-le r T (omega (arith, ap length e, length-replicate {A = ℕ} most_table_words 0)))
-
+-- The part of a blank table that is lent prints the log.
 pub lent-prints : (L : List ℕ) (r : ℕ) (T : List ℕ) → T ≡ replicate {A = ℕ} most_table_words 0 → r ≤ most_table_words → (is_log L ≡ true → r ≡ table_length (animals L) (ticks L)) → Prints L (take r T)
 lent-prints L r T e h f = subst (λ (U : List ℕ). Prints L (take r U)) (sym e) (prints L r h f)
 

@@ -1,11 +1,12 @@
 -- The words of bytes: four bytes each, highest first.
-use mathlib.Core.Path.{◌≡◌, refl, sym, ap, ◌∙◌}
-use mathlib.Core.List.{List, [], ◌∷◌}
+use mathlib.Core.Path.{◌≡◌, refl, sym, ap, ap₂, ◌∙◌}
+use mathlib.Core.List.{List, [], ◌∷◌, ◌++◌, append-nil}
 use Prim.Native.Nat.{ℕ, ◌+◌, ◌*◌, ◌/◌, ◌%◌, ◌^◌, ◌≤◌, ◌<◌}
 use native.Mathlib.Numerals.{add-one}
 use native.Mathlib.Omega.{arith}
-use lib.ListN.{length, get_or, drop, set, drop_of_length-le, length-drop}
+use lib.ListN.{length, get_or, take, drop, set, drop_of_length-le, length-take}
 use lib.Seq.{drop-cons}
+use Rattle.std.specs.Int.{w32, from_be_bytes}
 use Rattle.rules.specs.Sheet.{words_of}
 use Rattle.table_text.proofs.Writing.{Writing, start, byte, end}
 use Rattle.table_text.specs.Lines.{overwrite_front}
@@ -47,10 +48,10 @@ words-next B at h = ap words_of four
         ∙ ap (λ (l : List ℕ). get_or B (at + 1) 0 ∷ l)
         (next (at + 2) (at + 3) (omega arith) (omega arith) ∙ ap (λ (l : List ℕ). get_or B (at + 2) 0 ∷ l) (next (at + 3) (at + 4) (omega arith) (omega arith))))
 
--- The first word from `at` on, with its bytes as they were taken.
-pub word-is : (B : List ℕ) (at a b c d : ℕ) → at + 4 ≤ length B → a ≡ get_or B at 0 → b ≡ get_or B (at + 1) 0 → c ≡ get_or B (at + 2) 0 → d ≡ get_or B (at + 3) 0
-    → a * 0x100_0000 + b * 0x1_0000 + c * 0x100 + d ≡ get_or (words_of (drop at B)) 0 0
-word-is B at a b c d h p q r s = rw (p, q, r, s) (sym (ap (λ (l : List ℕ). get_or l 0 0) (words-next B at h)))
+-- Four bytes from `at` on, read as a word, are the first word from there.
+pub word-is : (B : List ℕ) (at : ℕ) → at + 4 ≤ length B
+    → from_be_bytes w32 (get_or B at 0 ∷ get_or B (at + 1) 0 ∷ get_or B (at + 2) 0 ∷ get_or B (at + 3) 0 ∷ []) ≡ get_or (words_of (drop at B)) 0 0
+word-is B at h = omega (arith, ap (λ (l : List ℕ). get_or l 0 0) (words-next B at h))
 
 -- ---- written word by word
 
@@ -69,25 +70,12 @@ module _ (B l : List ℕ) where
         n ∙ ap (λ (y : ℕ). y ∷ words_of (drop (4 * i + 4) B)) (sym (ap (λ (m : List ℕ). get_or m 0 0) n) ∙ sym e) ∙ ap (λ (j : ℕ). x ∷ words_of (drop j B)) k in
         byte w x (words_of (drop (4 * (i + 1)) B)) f
 
-    -- There is room for the next word.
-    pub words-room : 4 * i + 4 ≤ length B → i < length out
-    words-room h = omega (arith, w.room, ap length (words-next B (4 * i) h))
-
-    -- At last all are written.
-    pub words-done : length B ≤ 4 * i → out ≡ overwrite_front (words_of B) l
-    words-done h = (end w (ap words_of (drop_of_length-le B h) ∙ unfold words_of in refl)).1
-
--- ---- copied byte by byte
-
-module _ (text l out : List ℕ) (i : ℕ) (w : Writing text l out i (drop i text)) where
-  -- One byte more.
-  pub bytes-turn : i < length text → Writing text l (set out i (get_or text i 0)) (i + 1) (drop (i + 1) text)
-  bytes-turn h = byte w (get_or text i 0) (drop (i + 1) text) (drop-cons text i 0 h ∙ ap (λ (j : ℕ). get_or text i 0 ∷ drop j text) (sym (add-one i)))
-
-  -- There is room for the next byte.
-  pub bytes-room : i < length text → i < length out
-  bytes-room h = omega (arith, w.room, length-drop i text)
-
-  -- At last all are written.
-  pub bytes-done : length text ≤ i → out ≡ overwrite_front text l
-  bytes-done h = (end w (drop_of_length-le text h)).1
+-- At last all are written, in the place of as many words at the front of the list.
+pub words-done : (B out new : List ℕ) (i : ℕ) → length B % 4 ≡ 0 → length B ≤ 4 * length out → Writing (words_of B) (take (length B / 4) out) new i (words_of (drop (4 * i) B)) → length B / 4 ≤ i
+    → new ++ drop (length B / 4) out ≡ overwrite_front (words_of B) out
+unfolding overwrite_front words_of
+words-done B out new i d r w h =
+    let n : length (words_of B) ≡ length B / 4 = words-length B d in
+    let all = (end w (ap words_of (drop_of_length-le B (omega arith)))).1 in
+    let none = drop_of_length-le (take (length B / 4) out) {i = length (words_of B)} (omega (arith, n, length-take (length B / 4) out)) in
+    ap₂ ◌++◌ (all ∙ ap (λ (l : List ℕ). words_of B ++ l) none ∙ append-nil (words_of B)) (ap (λ (k : ℕ). drop k out) (sym n))

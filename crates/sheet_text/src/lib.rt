@@ -11,6 +11,7 @@ ghost use Rattle.table_text.specs.Lines.{overwrite_front};
 pub use input::word_at;
 
 // A text and its length; behind it the bytes are 0.
+// An array with a length beside it, since memory is fixed.
 #[derive(Clone, Copy)]
 pub struct Sheet {
     pub text: [u8; Sheet::MOST_TEXT],
@@ -61,10 +62,10 @@ fn put_sheet(bytes: &[u8], out: &mut [u8]) -> usize
     ensures out_after { out.new ≡ overwrite_front (sheet_text bytes.now) out.old }
 {
     if bytes.len() > Sheet::MOST_BYTES {
-        return print::put_bytes(b"too large\n", out);
+        return table_text::put_bytes(b"too large\n", out);
     }
     if bytes.len() % 4 != 0 {
-        return print::put_bytes(b"not whole words\n", out);
+        return table_text::put_bytes(b"not whole words\n", out);
     }
     let mut words = blank_log();
     input::put_words(bytes, &mut words);

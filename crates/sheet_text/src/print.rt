@@ -7,53 +7,32 @@ ghost use Rattle.table_text.specs.Lines.{overwrite_front};
 ghost use Rattle.sheet_text.specs.Prints.{Prints};
 
 use crate::Sheet;
-use rules::ReadAnswer;
-use tables::Opening;
-
-// Writes the bytes of the text.
-pub(crate) fn put_bytes(text: &[u8], out: &mut [u8]) -> usize
-    requires { length text.now ≤ length out.old }
-    ensures value { result ≡ length text.now }
-    ensures out_after { out.new ≡ overwrite_front text.now out.old }
-{
-    for i in 0..text.len() {
-        out[i] = text[i];
-    }
-    text.len()
-}
+use tables::{Opening, Table};
 
 // Whether an opening word stands first, with larger limits than those of the sheet.
 fn is_beyond(log: &[u32]) -> bool
     ensures { result ≡ is_beyond log.now }
 {
-    if log.len() == 0 {
+    let Some(w) = log.first() else {
         return false;
-    }
-    let w = log[0];
-    if !words::is_opening(w) {
-        return false;
-    }
-    if words::animals_of(w) > Sheet::MOST_ANIMALS {
-        return true;
-    }
-    words::ticks_of(w) > Sheet::MOST_TICKS
+    };
+    words::is_opening(*w)
+        && (words::animals_of(*w) > Sheet::MOST_ANIMALS || words::ticks_of(*w) > Sheet::MOST_TICKS)
 }
 
-// The number of words of the table for a log within the limits; for what is no log, none.
+// The number of words of the table for an opening word within the limits; where none stands first, no word.
 fn table_size(log: &[u32]) -> usize
     requires { is_beyond log.now ≡ false }
     ensures upper_bound { result ≤ most_table_words }
     ensures value { is_log log.now ≡ true → result ≡ table_length (animals log.now) (ticks log.now) }
 {
-    if log.len() < 2 {
+    let Some(w) = log.first() else {
+        return 0;
+    };
+    if !words::is_opening(*w) {
         return 0;
     }
-    let w = log[0];
-    if !words::is_opening(w) {
-        return 0;
-    }
-    let o = Opening::of_word(w);
-    o.table_length()
+    Opening::of_word(*w).table_length()
 }
 
 // Reads the log into the table, and writes the table's text or the refusal's.
@@ -63,10 +42,9 @@ fn put_read(log: &[u32], table: &mut [u32], out: &mut [u8]) -> usize
     ensures value { result ≡ length (log_text log.now) }
     ensures out_after { out.new ≡ overwrite_front (log_text log.now) out.old }
 {
-    let answer = engine::read_log(log, table);
-    match answer {
-        ReadAnswer::Refused(r) => table_text::put_refused(checks::number_of(r), out),
-        ReadAnswer::Read(k) => table_text::put_table(table, k, out),
+    match engine::read_log(log, table) {
+        Ok(contacts) => table_text::put_table(&Table::of_valid(table), contacts, out),
+        Err(refusal) => table_text::put_refused(u32::from(refusal), out),
     }
 }
 
@@ -84,7 +62,7 @@ pub(crate) fn put_log(log: &[u32], out: &mut [u8]) -> usize
     ensures out_after { out.new ≡ overwrite_front (cond (is_beyond log.now) too_large (log_text log.now)) out.old }
 {
     if is_beyond(log) {
-        return put_bytes(b"too large\n", out);
+        return table_text::put_bytes(b"too large\n", out);
     }
     let mut table = blank_table();
     let size = table_size(log);

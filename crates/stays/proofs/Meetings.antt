@@ -1,15 +1,16 @@
 -- The contacts of animals that share a pen: one by one, of one animal, of one tick, and all.
+use Rattle.std.specs.Prelude.{None}
 use mathlib.Core.Path.{◌≡◌, refl, sym, ap, ◌∙◌, subst}
 use mathlib.Core.Logic.{◌≢◌}
 use mathlib.Core.Bool.{Bool, cond}
-use mathlib.Core.Option.{none}
 use mathlib.Core.List.{List, [], ◌∷◌}
 use Prim.Native.Nat.{ℕ, ◌+◌, ◌/◌, ◌<◌}
 use native.Mathlib.Omega.{arith}
 use lib.ListN.{length, get_or}
 use lib.Bits.{bit_and, and_zero_l}
 use borrow.Author.Tests.{eq-eqb, ne_eqb}
-use Rattle.journeys.specs.Journey.{Contact, contact}
+use Rattle.journeys.specs.declared.Contact.{Contact}
+use Rattle.journeys.specs.Journey.{contact}
 use Rattle.journeys.proofs.Tests.{Outcome, holds, fails, eq_outcome}
 use Rattle.rules.specs.Limits.{max_animals, max_ticks}
 use Rattle.rules.specs.Folds.{flat}
@@ -92,7 +93,7 @@ tick-meetings T W pens i e f =
 
 -- ---- stays that no check refuses
 
-module _ (T W : List ℕ) (e : stays_refusal T W ≡ none) where
+module _ (T W : List ℕ) (e : stays_refusal T W ≡ None) where
   -- The table passes 5 and 6.
   pub table-valid : ValidTable T
   table-valid = ((stays-iff T W).0 e).0

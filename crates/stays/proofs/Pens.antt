@@ -11,7 +11,7 @@ use lib.Seq.{get_or-set_same, get_or-set_other}
 use lib.Dec.{eqb}
 use lib.Bits.{bit_and, bit_or, and_zero_l, or_zero_r, and_comm}
 use borrow.Author.Tests.{le-leb, lt-leb, eq-eqb, ne_eqb}
-use Rattle.journeys.specs.Journey.{Contact}
+use Rattle.journeys.specs.declared.Contact.{Contact}
 use Rattle.journeys.proofs.Tests.{untrue, Outcome, holds, fails, lt_outcome, eq_outcome}
 use Rattle.rules.specs.declared.Stay.{Stay}
 use Rattle.rules.specs.Limits.{max_animals}

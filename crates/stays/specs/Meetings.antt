@@ -1,7 +1,8 @@
 -- The pens of each animal at a tick, one bit for each pen, and the contacts of animals that share one.
 use Rattle.std.specs.Prelude.{ℕ, zero, suc, ◌^◌, ◌<◌, ◌≡◌, Bool, cond, not, ◌&&◌, List, length, get_or, eqb}
 use Rattle.std.specs.Int.Bits.{bit_and, bit_or}
-use Rattle.journeys.specs.Journey.{Contact, contact}
+use Rattle.journeys.specs.declared.Contact.{Contact}
+use Rattle.journeys.specs.Journey.{contact}
 use Rattle.rules.specs.declared.Stay.{Stay}
 use Rattle.rules.specs.Limits.{max_animals}
 use Rattle.rules.specs.Folds.{flat}

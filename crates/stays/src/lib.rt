@@ -3,7 +3,6 @@
 #![tactic(auto)]
 
 ghost use Rattle.std.specs.Prelude.{◌≡◌, ◌/◌, ◌≤◌, ◌<◌, length};
-ghost use mathlib.Core.Option.{none};
 ghost use Rattle.rules.specs.Limits.{max_animals, max_ticks, max_pen};
 ghost use Rattle.rules.specs.CallLists.{engine, run, new_adds};
 ghost use Rattle.rules.specs.Stays.{stay_contacts, stays_refusal};
@@ -11,18 +10,17 @@ ghost use Rattle.rules.specs.StayRule.{AreStays};
 ghost use Rattle.adding_lists.specs.Contacts.{Addable};
 ghost use Rattle.stays.specs.Meetings.{pen_bit, PensBy, meeting, meetings_from, meetings_at};
 
+use journeys::Contact;
 use rules::Stay;
 use tables::Opening;
 
 // The bit of the record's pen, where its animal was there at tick t, else 0.
+// No `Option`: bits are joined, and 0 joins nothing.
 fn pen_bit(stay: Stay, t: u32) -> u64
     requires { stay.pen ≤ max_pen }
     ensures { result ≡ pen_bit stay t }
 {
-    if t < stay.first {
-        return 0;
-    }
-    if stay.last < t {
+    if t < stay.first || stay.last < t {
         return 0;
     }
     1u64 << stay.pen
@@ -45,6 +43,7 @@ fn pens_at(stays: &[u32], t: u32) -> [u64; Opening::MAX_ANIMALS as usize]
 }
 
 // Adds the contact (u, v, t) where u and v differ and share a pen: 1 where it was new, else 0.
+// A number and no `bool`, since callers add it up.
 #[tactic(auto, using(crate::proofs::Meetings::own))]
 fn add_meeting(
     table: &mut [u32],
@@ -65,7 +64,12 @@ fn add_meeting(
     if shared == 0 {
         return 0;
     }
-    adding_lists::add_counting(table, u, v, t)
+    let contact = Contact {
+        from: u,
+        to: v,
+        tick: t,
+    };
+    adding_lists::add_counting(table, contact)
 }
 
 // Adds the contacts of tick t from u: how many were new. An animal in no pen has none.
@@ -112,7 +116,7 @@ fn add_meetings(
 
 // Adds the contacts of the stays, tick by tick: how many were new.
 pub fn add_stays(table: &mut [u32], stays: &[u32]) -> u32
-    requires { stays_refusal table.old stays.now ≡ none }
+    requires { stays_refusal table.old stays.now ≡ None }
     ensures value { result ≡ new_adds engine table.old (stay_contacts table.old stays.now) }
     ensures table_after { table.new ≡ run engine table.old (stay_contacts table.old stays.now) }
 {

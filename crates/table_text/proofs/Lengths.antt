@@ -1,7 +1,7 @@
 -- How long the texts are: a sheet fits its bytes.
+use Rattle.std.specs.Prelude.{Option, None, Some, Ok}
 use mathlib.Core.Path.{◌≡◌, refl, sym, ap, ◌∙◌}
 use mathlib.Core.Bool.{Bool, true, false, cond, not, ◌&&◌}
-use mathlib.Core.Option.{Option, none, some}
 use mathlib.Core.List.{List, [], ◌∷◌, ◌++◌, Memᴰ}
 use Prim.Native.Nat.{ℕ, zero, suc, ◌+◌, ◌*◌, ◌/◌, ◌%◌, ◌^◌, ◌≤◌, ◌<◌}
 use native.Mathlib.Nat.{mul-le-mul, le_refl, pow-suc}
@@ -9,7 +9,7 @@ use native.Mathlib.Omega.{arith}
 use lib.ListN.{length, get_or, replicate, length-append}
 use lib.Dec.{leb, ltb, eqb}
 use borrow.Author.Tests.{not-false, leb-true, eqb-true}
-use Rattle.journeys.specs.Journey.{Interval}
+use Rattle.journeys.specs.declared.Interval.{Interval}
 use Rattle.journeys.specs.Cell.{Cell, Limits, WellFormedCell}
 use Rattle.journeys.specs.Adding.{Cells}
 use Rattle.journeys.proofs.Tests.{Outcome, holds, fails, lt_outcome}
@@ -19,8 +19,7 @@ use Rattle.words.specs.Words.{opening_layout}
 use Rattle.rules.specs.Limits.{max_carry}
 use Rattle.rules.specs.declared.Refusal.{Refusal}
 use Rattle.rules.specs.declared.Refusal.TheVariants.{AnimalsBeyondLimit, TicksBeyondLimit, CarryBeyondLimit, WrongLength, NotOpen, NotWellFormed, NoSuchAnimal, SameAnimal, TickOutOfRange, ChainBufferTooShort, NotALog, NotAContact, IllegalContact, WrongEnd, LogBufferTooShort, TallyFull, DifferentOpenings, IllegalStay, FirstAfterLast, DifferentLengths, NotHeld}
-use Rattle.rules.specs.declared.ReadAnswer.TheVariants.{Read}
-use Rattle.rules.specs.Answers.{number_of, unless, read_answer_of}
+use Rattle.rules.specs.Answers.{number_of, unless, answer_of}
 use Rattle.rules.specs.Folds.{flat}
 use Rattle.rules.specs.Layout.{table_length, animals, ticks, carry, cells_of}
 use Rattle.rules.specs.Checks.{ValidTable, WellFormedBelow}
@@ -168,7 +167,7 @@ refused-short r = omega (arith, digits 1 (number_of r) (number_small r), length-
 second-fails : (a b : Bool) → a ≡ true → (a && b) ≡ false → b ≡ false
 second-fails a b h e = sym (ap (λ (x : Bool). x && b) h) ∙ e
 
-module _ (L T : List ℕ) (r : read_refusal L T ≡ none) where
+module _ (L T : List ℕ) (r : read_refusal L T ≡ None) where
   -- A log that is read and is not beyond the limits lies within them.
   within-limits : is_beyond L ≡ false → (animals L ≤ most_animals) × (ticks L ≤ most_ticks)
   unfolding is_beyond read_refusal
@@ -180,7 +179,7 @@ module _ (L T : List ℕ) (r : read_refusal L T ≡ none) where
       (leb-true (animals L) most_animals (and_left x y b), leb-true (ticks L) most_ticks (and_right x y b))
 
   -- Its table can be opened.
-  read-opens : open_refusal (animals L) (ticks L) (carry L) T ≡ none
+  read-opens : open_refusal (animals L) (ticks L) (carry L) T ≡ None
   unfolding read_refusal
   read-opens =
       (open_iff (animals L) (ticks L) (carry L) T).1 (
@@ -204,9 +203,9 @@ log-short L e = go (read_refusal L T) refl
     T = replicate {A = ℕ} (table_length (animals L) (ticks L)) 0
 
     go : (o : Option Refusal) → read_refusal L T ≡ o
-        → length (read_text (read_answer_of o (Read (different (logged_contacts L)))) (unless o (table_with (animals L) (ticks L) (carry L) T (logged_contacts L)) T)) ≤ most_shown
-    go none r = read_short L T r e
-    go (some r) q = omega (arith, refused-short r)
+        → length (read_text (answer_of o (Ok (different (logged_contacts L)))) (unless o (table_with (animals L) (ticks L) (carry L) T (logged_contacts L)) T)) ≤ most_shown
+    go None r = read_short L T r e
+    go (Some r) q = omega (arith, refused-short r)
 
 -- A sheet fits its bytes.
 pub sheet_fits : (B : List ℕ) → length (sheet_text B) ≤ most_text

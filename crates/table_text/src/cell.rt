@@ -3,9 +3,10 @@ ghost use Rattle.std.specs.Prelude.{◌≡◌, ◌≤◌, length};
 ghost use Rattle.words.specs.Words.{interval_of};
 ghost use Rattle.rules.specs.Layout.{cell_of};
 ghost use Rattle.rules.specs.Sheet.{interval_text, intervals_text, cell_text};
-ghost use Rattle.grid.specs.Cells.{Grid};
 ghost use Rattle.cells.specs.Stored.{Stored};
-ghost use Rattle.table_text.specs.Lines.{overwrite_front, grid_text};
+ghost use Rattle.table_text.specs.Lines.{overwrite_front, cell_lines};
+
+use tables::Table;
 
 // Writes the interval of a row, behind a space.
 fn put_interval(w: u32, out: &mut [u8]) -> usize
@@ -27,8 +28,8 @@ fn put_intervals(cell: &[u32], out: &mut [u8]) -> usize
 {
     let end = words::rows_of(cell[0]) as usize + 1;
     let mut at = 0;
-    for i in 1..end {
-        at = at + put_interval(cell[i], &mut out[at..]);
+    for w in &cell[1..end] {
+        at = at + put_interval(*w, &mut out[at..]);
     }
     at
 }
@@ -50,19 +51,20 @@ fn put_cell(cell: &[u32], u: u32, v: u32, out: &mut [u8]) -> usize
     end + 1
 }
 
-// Writes the lines of n × n cells of `size` words.
-pub(crate) fn put_cells(body: &[u32], n: u32, size: usize, out: &mut [u8]) -> usize
-    requires le_size { (1 ≤ size) × Grid Stored n size body.now }
-    requires body_in_bounds { length (grid_text n size body.now) ≤ length out.old }
-    ensures value { result ≡ length (grid_text n size body.now) }
-    ensures out_after { out.new ≡ overwrite_front (grid_text n size body.now) out.old }
+// Writes the lines of the table's cells.
+pub(crate) fn put_cells(table: &Table, out: &mut [u8]) -> usize
+    requires { length (cell_lines table.now) ≤ length out.old }
+    ensures value { result ≡ length (cell_lines table.now) }
+    ensures out_after { out.new ≡ overwrite_front (cell_lines table.now) out.old }
 {
-    let mut here = grid::first_cell();
+    let opening = table.opening();
+    let n = opening.animals as usize;
+    let size = opening.ticks as usize + 1;
     let mut end = 0;
-    while here.at < body.len() {
-        let at = here.at;
-        end = end + put_cell(&body[at..at + size], here.from, here.to, &mut out[end..]);
-        here = grid::next_cell(here, n, size);
+    for (k, cell) in table.cells().chunks_exact(size).enumerate() {
+        let u = (k / n) as u32;
+        let v = (k % n) as u32;
+        end = end + put_cell(cell, u, v, &mut out[end..]);
     }
     end
 }

@@ -4,12 +4,14 @@
 mod cell;
 
 ghost use Rattle.std.specs.Prelude.{◌≡◌, [], ◌∷◌, ◌++◌, ◌+◌, ◌≤◌, ◌<◌, length};
-ghost use Rattle.rules.specs.Checks.{ValidTable};
 ghost use Rattle.rules.specs.Logs.{held_contacts};
 ghost use Rattle.rules.specs.Sheet.{decimal, first_line, table_text, refused_text};
 ghost use Rattle.table_text.specs.Lines.{overwrite_front};
 
+use tables::Table;
+
 // The digit of a number below ten.
+// A byte of the text, where `char::from_digit` would give a `char`.
 fn digit(k: u32) -> u8
     requires { k < 10 }
     ensures { result ≡ 48 + k }
@@ -30,6 +32,17 @@ pub fn put_number(k: u32, out: &mut [u8]) -> usize
     let end = put_number(k / 10, out);
     out[end] = digit(k % 10);
     end + 1
+}
+
+// Writes the bytes of the text.
+pub fn put_bytes(text: &[u8], out: &mut [u8]) -> usize
+    requires { length text.now ≤ length out.old }
+    ensures value { result ≡ length text.now }
+    ensures out_after { out.new ≡ overwrite_front text.now out.old }
+{
+    let count = text.len();
+    out[..count].copy_from_slice(text);
+    count
 }
 
 // Writes the number in decimal, and the byte behind it.
@@ -56,19 +69,15 @@ fn put_first_line(n: u32, ticks: u32, carry: u32, held: u32, out: &mut [u8]) -> 
 }
 
 // Writes the first line of the table, then one for each non-empty cell.
-pub fn put_table(table: &[u32], held: u32, out: &mut [u8]) -> usize
-    requires valid_table { ValidTable table.now }
+pub fn put_table(table: &Table, held: u32, out: &mut [u8]) -> usize
     requires held_value { held ≡ length (held_contacts table.now) }
     requires table_in_bounds { length (table_text table.now) ≤ length out.old }
     ensures value { result ≡ length (table_text table.now) }
     ensures out_after { out.new ≡ overwrite_front (table_text table.now) out.old }
 {
-    let w = table[0];
-    let n = words::animals_of(w);
-    let ticks = words::ticks_of(w);
-    let size = ticks as usize + 1;
-    let at = put_first_line(n, ticks, words::carry_of(w), held, out);
-    at + cell::put_cells(&table[1..], n, size, &mut out[at..])
+    let opening = table.opening();
+    let at = put_first_line(opening.animals, opening.ticks, opening.carry, held, out);
+    at + cell::put_cells(table, &mut out[at..])
 }
 
 // Writes the line of a refusal.
@@ -77,13 +86,6 @@ pub fn put_refused(number: u32, out: &mut [u8]) -> usize
     ensures value { result ≡ length (refused_text number) }
     ensures out_after { out.new ≡ overwrite_front (refused_text number) out.old }
 {
-    out[0] = b'r';
-    out[1] = b'e';
-    out[2] = b'f';
-    out[3] = b'u';
-    out[4] = b's';
-    out[5] = b'e';
-    out[6] = b'd';
-    out[7] = b' ';
-    8 + put_then(number, b'\n', &mut out[8..])
+    let at = put_bytes(b"refused ", out);
+    at + put_then(number, b'\n', &mut out[at..])
 }

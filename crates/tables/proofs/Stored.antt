@@ -4,7 +4,7 @@ use mathlib.Core.List.{List, Memᴰ}
 use Prim.Native.Nat.{ℕ, ◌+◌, ◌-◌, ◌<◌}
 use native.Mathlib.Omega.{arith}
 use lib.ListN.{length, take, drop, length-drop}
-use Rattle.journeys.specs.Journey.{Interval}
+use Rattle.journeys.specs.declared.Interval.{Interval}
 use Rattle.journeys.specs.Cell.{Cell, Limits}
 use Rattle.rules.specs.Layout.{cell_words, animals, ticks, carry, cell_at, cell_of, cells_of}
 use Rattle.rules.specs.Checks.{ValidTable}

@@ -1,11 +1,11 @@
 -- The ticks read off a cell: departures and arrivals lie within their limits, and 0 says that there is none.
+use Rattle.std.specs.Prelude.{Option, None, Some, option_map}
 use mathlib.Core.Path.{◌≡◌, refl, sym, ap}
 use mathlib.Core.Bool.{Bool, true, false, cond}
-use mathlib.Core.Option.{Option, none, some, map}
 use mathlib.Core.List.{List, Memᴰ}
 use Prim.Native.Nat.{ℕ, ◌+◌, ◌≤◌, ◌<◌}
 use native.Mathlib.Omega.{arith}
-use Rattle.journeys.specs.Journey.{Interval}
+use Rattle.journeys.specs.declared.Interval.{Interval}
 use Rattle.journeys.specs.Cell.{Cell, latest_departure, earliest_arrival}
 use Rattle.journeys.proofs.First.{FirstOf, nothing-asked, first-asked, latest-departing, earliest-arriving}
 use Rattle.rules.specs.Limits.{max_arrival}
@@ -17,24 +17,24 @@ use Rattle.tables.proofs.Stored.{cell-limits}
 
 -- The tick, if there is one, is at least 1 and below m.
 abbrev pub Tick : ℕ → Option ℕ → Type 0
-Tick m none = Unit {0}
-Tick m (some t) = (1 ≤ t) × (t < m)
+Tick m None = Unit {0}
+Tick m (Some t) = (1 ≤ t) × (t < m)
 
 -- A tick written as 0 is none.
-pub tick-none : (o : Option ℕ) (r : ℕ) → Tick (max_arrival + 1) o → r ≡ or_zero o → r ≡ 0 → o ≡ none
-tick-none none r t e z = refl
-tick-none (some a) r t e z = absurd (omega (arith, t.0))
+pub tick-none : (o : Option ℕ) (r : ℕ) → Tick (max_arrival + 1) o → r ≡ or_zero o → r ≡ 0 → o ≡ None
+tick-none None r t e z = refl
+tick-none (Some a) r t e z = absurd (omega (arith, t.0))
 
 -- A tick not written as 0 is that tick.
-pub tick-some : (o : Option ℕ) (r : ℕ) → r ≡ or_zero o → (r ≡ 0 → ⊥) → o ≡ some r
-tick-some none r e z = absurd (z e)
-tick-some (some a) r e z = ap some (sym e)
+pub tick-some : (o : Option ℕ) (r : ℕ) → r ≡ or_zero o → (r ≡ 0 → ⊥) → o ≡ Some r
+tick-some None r e z = absurd (z e)
+tick-some (Some a) r e z = ap Some (sym e)
 
 module _ (m : ℕ) where
   -- Written with 0 for none, it is below m.
   pub tick-below : (o : Option ℕ) → 1 ≤ m → Tick m o → or_zero o < m
-  tick-below none h p = h
-  tick-below (some t) h p = p.1
+  tick-below None h p = h
+  tick-below (Some t) h p = p.1
 
   -- One of two.
   pub tick-cond : (b : Bool) (o p : Option ℕ) → Tick m o → Tick m p → Tick m (cond b o p)
@@ -43,17 +43,17 @@ module _ (m : ℕ) where
 
   -- An end of the interval found lies where those of the cell's intervals all lie.
   found-tick : {P : Interval → Type 0} {R : Interval → Interval → Type 0} (f : Interval → ℕ) (c : Cell) {o : Option Interval} → FirstOf P R c o
-      → ((i : Interval) → Memᴰ i c → Tick m (some (f i))) → Tick m (map f o)
+      → ((i : Interval) → Memᴰ i c → Tick m (Some (f i))) → Tick m (option_map f o)
   found-tick f c (nothing-asked n) h = tt
   found-tick f c (first-asked {i = i} q p l) h = h i q
 
   -- The latest departure is one of the cell.
-  pub latest-tick : (t : ℕ) (c : Cell) → ((i : Interval) → Memᴰ i c → Tick m (some i.departure)) → Tick m (latest_departure c t)
+  pub latest-tick : (t : ℕ) (c : Cell) → ((i : Interval) → Memᴰ i c → Tick m (Some i.departure)) → Tick m (latest_departure c t)
   unfolding latest_departure
   latest-tick t c = found-tick departure_end c (latest-departing t c)
 
   -- The earliest arrival is one of the cell.
-  pub earliest-tick : (t : ℕ) (c : Cell) → ((i : Interval) → Memᴰ i c → Tick m (some i.arrival)) → Tick m (earliest_arrival c t)
+  pub earliest-tick : (t : ℕ) (c : Cell) → ((i : Interval) → Memᴰ i c → Tick m (Some i.arrival)) → Tick m (earliest_arrival c t)
   unfolding earliest_arrival
   earliest-tick t c = found-tick arrival_end c (earliest-arriving t c)
 

@@ -1,17 +1,20 @@
 // The opening of a table with its limits, the checks of an open table, its cells, and the words of a table just opened.
 #![tactic(auto)]
 
-ghost use Rattle.std.specs.Prelude.{◌≡◌, true, [], ◌+◌, ◌-◌, ◌*◌, ◌≤◌, ◌<◌, length};
+ghost use Rattle.std.specs.Prelude.{◌≡◌, true, [], ◌+◌, ◌-◌, ◌*◌, ◌/◌, ◌%◌, ◌≤◌, ◌<◌, length};
 ghost use Rattle.words.specs.Words.{animals_of, ticks_of, carry_of};
 ghost use Rattle.rules.specs.Limits.{max_animals, max_ticks, max_carry};
 ghost use Rattle.rules.specs.Folds.{within};
 ghost use Rattle.rules.specs.Layout.{table_length, cell_words, table_words, animals, ticks, cell_at};
-ghost use Rattle.rules.specs.Checks.{is_open, well_formed, ValidTable};
+ghost use Rattle.rules.specs.Checks.{is_open, well_formed, cell_well_formed, ValidTable};
 ghost use Rattle.rules.specs.Opening.{Sizes, no_intervals};
 ghost use Rattle.grid.specs.Parts.{parts};
 ghost use Rattle.tables.specs.Openings.{made};
-ghost use Rattle.tables.specs.Cells.{most_rows, cells_from_well_formed, all_cells_well_formed, emptied};
+ghost use Rattle.tables.specs.Cells.{most_rows, all_cells_well_formed, emptied};
 
+mod checked;
+
+pub use checked::Table;
 use rules::Refusal;
 
 // The opening of a table: how many animals, how many ticks, and the carry time.
@@ -22,21 +25,11 @@ pub struct Opening {
     pub carry: u32,
 }
 
-// What the constructor of an opening gives.
-#[derive(Clone, Copy)]
-pub enum Made {
-    Within(Opening),
-    Beyond(Refusal),
-}
-
 // Whether the number is from 1 to `most`.
 pub fn is_within(k: u32, most: u32) -> bool
     ensures { result ≡ within 1 k most }
 {
-    if k < 1 {
-        return false;
-    }
-    k <= most
+    1 <= k && k <= most
 }
 
 impl Opening {
@@ -51,19 +44,19 @@ impl Opening {
     pub const MAX_CHAIN: usize = Opening::MAX_ANIMALS as usize - 1;
 
     // The opening of three numbers, refused when one is beyond its limits.
-    pub fn new(animals: u32, ticks: u32, carry: u32) -> Made
+    pub fn new(animals: u32, ticks: u32, carry: u32) -> Result<Opening, Refusal>
         ensures { result ≡ made animals ticks carry }
     {
         if !is_within(animals, Opening::MAX_ANIMALS) {
-            return Made::Beyond(Refusal::AnimalsBeyondLimit);
+            return Err(Refusal::AnimalsBeyondLimit);
         }
         if !is_within(ticks, Opening::MAX_TICKS) {
-            return Made::Beyond(Refusal::TicksBeyondLimit);
+            return Err(Refusal::TicksBeyondLimit);
         }
         if !is_within(carry, Opening::MAX_CARRY) {
-            return Made::Beyond(Refusal::CarryBeyondLimit);
+            return Err(Refusal::CarryBeyondLimit);
         }
-        Made::Within(Opening {
+        Ok(Opening {
             animals,
             ticks,
             carry,
@@ -96,59 +89,36 @@ impl Opening {
 pub fn is_open(table: &[u32]) -> bool
     ensures { result ≡ is_open table.now }
 {
-    if table.len() == 0 {
+    let Some(w) = table.first() else {
         return false;
-    }
-    let w = table[0];
-    if !words::is_opening(w) {
-        return false;
-    }
-    let o = Opening::of_word(w);
-    let length = o.table_length();
-    table.len() == length
+    };
+    words::is_opening(*w) && table.len() == Opening::of_word(*w).table_length()
 }
 
 // The most rows in use that cell (u, v) may have: none where u is v.
 fn most_rows(u: usize, v: usize, ticks: u32) -> u32
     ensures { result ≡ most_rows ticks u v }
 {
-    if u == v {
-        return 0;
-    }
-    ticks
+    if u == v { 0 } else { ticks }
 }
 
-// Whether the n cells from u are well formed.
-fn cells_from_well_formed(cells: &[u32], u: usize, n: usize, ticks: u32, carry: u32) -> bool
-    requires { (ticks ≤ max_ticks) × (carry ≤ max_carry) × (n * (ticks + 1) ≤ length cells.now) }
-    ensures { result ≡ cells_from_well_formed ticks carry n u cells.now }
+// Whether cell k of n × n cells is well formed, as that of the animals that its number says.
+fn cell_of_well_formed(cell: &[u32], k: usize, n: usize, ticks: u32, carry: u32) -> bool
+    requires { (1 ≤ n) × (ticks ≤ max_ticks) × (carry ≤ max_carry) × (length cell.now ≡ ticks + 1) }
+    ensures { result ≡ cell_well_formed ticks carry (most_rows ticks (k / n) (k % n)) cell.now }
 {
-    let size = ticks as usize + 1;
-    let mut at = 0;
-    for v in 0..n {
-        let end = at + size;
-        let most = most_rows(u, v, ticks);
-        if !cell_checks::is_well_formed(&cells[at..end], ticks, carry, most) {
-            return false;
-        }
-        at = end;
-    }
-    true
+    cell_checks::is_well_formed(cell, ticks, carry, most_rows(k / n, k % n, ticks))
 }
 
-// Whether the n cells from each of n animals are well formed.
+// Whether the n × n cells are well formed.
 fn all_cells_well_formed(body: &[u32], n: usize, ticks: u32, carry: u32) -> bool
-    requires { (n ≤ max_animals) × (ticks ≤ max_ticks) × (carry ≤ max_carry) × (n * (n * (ticks + 1)) ≤ length body.now) }
+    requires { (1 ≤ n) × (ticks ≤ max_ticks) × (carry ≤ max_carry) × (length body.now ≡ n * n * (ticks + 1)) }
     ensures { result ≡ all_cells_well_formed ticks carry n body.now }
 {
-    let width = n * (ticks as usize + 1);
-    let mut at = 0;
-    for u in 0..n {
-        let end = at + width;
-        if !cells_from_well_formed(&body[at..end], u, n, ticks, carry) {
+    for (k, cell) in body.chunks_exact(ticks as usize + 1).enumerate() {
+        if !cell_of_well_formed(cell, k, n, ticks, carry) {
             return false;
         }
-        at = end;
     }
     true
 }
@@ -179,23 +149,19 @@ fn write_empty(cell: &mut [u32])
     requires { 1 ≤ length cell.old }
     ensures { cell.new ≡ cell_words (length cell.old - 1) [] }
 {
+    cell.fill(words::unused_word());
     cell[0] = words::count_word(0);
-    let unused = words::unused_word();
-    for i in 1..cell.len() {
-        cell[i] = unused;
-    }
 }
 
 // Makes the first `count` cells of `size` words empty.
+// By number: of the parts that `chunks_exact_mut` lends nothing is known afterwards.
 fn write_cells(body: &mut [u32], size: usize, count: usize)
     requires { (1 ≤ size) × (count * size ≤ length body.old) }
     ensures { body.new ≡ parts emptied size count body.old }
 {
-    let mut at = 0;
     for k in 0..count {
-        let end = at + size;
-        write_empty(&mut body[at..end]);
-        at = end;
+        let at = k * size;
+        write_empty(&mut body[at..at + size]);
     }
 }
 

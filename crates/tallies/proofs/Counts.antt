@@ -1,5 +1,5 @@
 -- What the numbers of a tally come to, with room for one more and raised.
-use mathlib.Core.Path.{◌≡◌, sym, ap, ap₂, ◌∙◌}
+use mathlib.Core.Path.{◌≡◌, ap₂}
 use mathlib.Core.Bool.{true}
 use Prim.Native.Nat.{ℕ, ◌+◌, ◌<◌}
 use lib.Dec.{ltb}
@@ -19,16 +19,3 @@ room-left t e = ltb-true (t.new + t.known + t.refused + t.removed) full_tally e
 
 -- What follows where a tally has room.
 pub ruleset room = (room-left)
-
--- The tally of four numbers.
-abbrev tally_of : ℕ → ℕ → ℕ → ℕ → Tally
-tally_of n k r d = record { new = n; known = k; refused = r; removed = d }
-
--- Tallies with the same four numbers are the same.
-same-tally : {n k r d n' k' r' d' : ℕ} → n ≡ n' → k ≡ k' → r ≡ r' → d ≡ d' → tally_of n k r d ≡ tally_of n' k' r' d'
-same-tally e f g h = λ i. record { new = e i; known = f i; refused = g i; removed = h i }
-
--- The tally of the four numbers that an answer leaves is the tally raised by that answer, whatever raises it.
-pub same-raised : {A : Type 0} (raise : A → Tally) {a b : A} {n k r d : ℕ} → a ≡ b → n ≡ (raise b).new → k ≡ (raise b).known → r ≡ (raise b).refused → d ≡ (raise b).removed
-    → tally_of n k r d ≡ raise a
-same-raised raise q e f g h = same-tally e f g h ∙ sym (ap raise q)

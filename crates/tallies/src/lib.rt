@@ -1,10 +1,10 @@
 // The tally of counted calls: whether it has room for one more, and which of its numbers a call raises.
 #![tactic(auto)]
 
-ghost use Rattle.std.specs.Prelude.{◌≡◌, true};
+ghost use Rattle.std.specs.Prelude.{◌≡◌, ◌+◌, true};
 ghost use Rattle.rules.specs.Counting.{tally_sum, has_room, raised, raised_by_removal};
 
-use rules::{AddAnswer, DoneAnswer, Tally};
+use rules::{Added, Refusal, Tally};
 
 // A tally whose numbers sum to this or more has no room for another call.
 pub const FULL_TALLY: u64 = 4_294_967_295;
@@ -23,31 +23,48 @@ pub fn has_room(tally: Tally) -> bool
     sum_of(tally) < FULL_TALLY
 }
 
+// The tally with `refused` raised by 1.
+#[tactic(auto, using(crate::proofs::Counts::room))]
+fn raise_refused(tally: Tally) -> Tally
+    requires { has_room tally ≡ true }
+    ensures { result ≡ record { new = tally.new; known = tally.known; refused = tally.refused + 1; removed = tally.removed } }
+{
+    Tally {
+        refused: tally.refused + 1,
+        ..tally
+    }
+}
+
 // The tally with the one number raised by 1 that counts the answer of an add.
 #[tactic(auto, using(crate::proofs::Counts::room))]
-pub fn raise(tally: Tally, answer: AddAnswer) -> Tally
+pub fn raise(tally: Tally, answer: Result<Added, Refusal>) -> Tally
     requires { has_room tally ≡ true }
     ensures { result ≡ raised answer tally }
 {
-    let mut next = tally;
     match answer {
-        AddAnswer::New(_) => next.new = tally.new + 1,
-        AddAnswer::Known(_) => next.known = tally.known + 1,
-        AddAnswer::Refused(_) => next.refused = tally.refused + 1,
+        Ok(Added::New(_)) => Tally {
+            new: tally.new + 1,
+            ..tally
+        },
+        Ok(Added::Known(_)) => Tally {
+            known: tally.known + 1,
+            ..tally
+        },
+        Err(_) => raise_refused(tally),
     }
-    next
 }
 
 // The tally with the one number raised by 1 that counts the answer of a removal.
 #[tactic(auto, using(crate::proofs::Counts::room))]
-pub fn raise_by_removal(tally: Tally, answer: DoneAnswer) -> Tally
+pub fn raise_by_removal(tally: Tally, answer: Result<(), Refusal>) -> Tally
     requires { has_room tally ≡ true }
     ensures { result ≡ raised_by_removal answer tally }
 {
-    let mut next = tally;
     match answer {
-        DoneAnswer::Done => next.removed = tally.removed + 1,
-        DoneAnswer::Refused(_) => next.refused = tally.refused + 1,
+        Ok(()) => Tally {
+            removed: tally.removed + 1,
+            ..tally
+        },
+        Err(_) => raise_refused(tally),
     }
-    next
 }

@@ -9,11 +9,13 @@ use Prim.Native.Nat.{ℕ, zero, suc, ◌+◌, ◌-◌, ◌*◌, ◌/◌, ◌%◌
 use native.Mathlib.Nat.{le_trans, lt_of_lt_of_le, le_of_eq, mod-lt, mod-one, div-add-mod', add_assoc, add_comm, add-mul, mul_assoc, zero-add, zero-mul, sub-add_cancel}
 use native.Mathlib.Decide.{dec_le, ℕ_discrete}
 use native.Mathlib.Omega.{arith}
+use Rattle.std.proofs.Math.Nat.{mod-eq_of_lt}
+use Rattle.std.proofs.lemmas.Nat.{shl_below}
 use lib.Dec.{eqb}
 use lib.Arith.{digits_lt, digits_div}
 use lib.Pow.{pow_pos, pow_mono, pow-add, high, low, mod-pow-add}
 use borrow.Author.Tests.{eqb-true, eq-eqb, ne_eqb}
-use Rattle.words.specs.Layout.{Field, Layout, get, place, pack, unpack, is_of}
+use Rattle.words.specs.Layout.{Field, Layout, get, place, pack, unpack, is_of, filled}
 
 -- The fields lie below bit `top`, from the highest down, and do not overlap.
 abbrev pub Descending : ℕ → List Field → Type 0
@@ -232,3 +234,16 @@ is_of-test L top d t w c p e = same_test (w / d) t w (pack L (unpack L w)) to fr
 
     from : w ≡ pack L (unpack L w) → w / d ≡ t
     from q = ap (λ (x : ℕ). x / d) (q ∙ sym packed) ∙ digits_div t (mod-lt w (subst (λ (x : ℕ). 0 < x) (sym p) (pow_pos top)))
+
+-- Layouts of one kind whose fields fill the same bits have the same words.
+pub is_of-filling : (L M : Layout) (top w : ℕ) → L.kind ≡ M.kind → Filling top L.fields → Filling top M.fields → is_of L w ≡ is_of M w
+unfolding is_of
+is_of-filling L M top w k c d =
+    ap (eqb w)
+    (ap₂ (λ (a b : ℕ). a * 2 ^ 30 + b) k (place-filling top L.fields w c ∙ sym (place-filling top M.fields w d)))
+
+-- Where the lowest bits are the only field, a word is of the layout exactly when what stands above them is the kind, shifted as a word of 32 bits.
+pub is_of-filled : (kind width w : ℕ) → kind < 4 → width ≤ 30 → eqb (w / 2 ^ width) (kind * 2 ^ (30 - width) % 2 ^ 32) ≡ is_of (filled kind width) w
+is_of-filled kind width w k l =
+    is_of-test (filled kind width) width (2 ^ width) _ w (zero-add width, refl) refl
+    (ap (λ (n : ℕ). n * 2 ^ width) (mod-eq_of_lt (lt_of_lt_of_le (shl_below kind 2 (30 - width) k) (pow_mono {i = 2 + (30 - width)} {j = 32} (omega arith)))) ∙ sym (shift-twice kind l))

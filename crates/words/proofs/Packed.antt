@@ -6,7 +6,9 @@ use Prim.Native.Nat.{ℕ, ◌+◌, ◌-◌, ◌≤◌, ◌<◌}
 use native.Mathlib.Nat.{add-sub_cancel, sub-add_cancel}
 use native.Mathlib.Omega.{arith}
 use lib.ListN.{get_or}
-use Rattle.journeys.specs.Journey.{Contact, contact, Interval, interval}
+use Rattle.journeys.specs.declared.Contact.{Contact}
+use Rattle.journeys.specs.declared.Interval.{Interval}
+use Rattle.journeys.specs.Journey.{contact, interval}
 use Rattle.words.specs.Layout.{Field, Layout, get, pack, unpack, is_of, capacity}
 use Rattle.words.specs.Words.{unused_layout, unused_word, departure_field, arrival_field, interval_layout, interval_word, interval_of, from_field, to_field, tick_field, contact_layout, contact_word, contact_of, animals_field, carry_field, ticks_field, opening_layout, opening_word, animals_of, ticks_of, carry_of, rows_field, count_layout, count_word, logged_field, end_layout, end_word}
 use Rattle.words.proofs.Fields.{Descending, Fitting, get-bound, unpack-pack, is_of-pack, pack-unpack}

@@ -40,3 +40,7 @@ unpack L w = map (λ f. get f w) L.fields
 -- The word is of the layout: its kind is the layout's, and it has nothing outside the fields.
 unfoldable pub is_of : Layout → ℕ → Bool
 is_of L w = eqb w (pack L (unpack L w))
+
+-- A layout of one field, the lowest bits of the word.
+abbrev pub filled : ℕ → ℕ → Layout
+filled kind width = record { kind = kind; fields = (record { shift = 0; width = width }) ∷ [] }

@@ -1,6 +1,8 @@
 -- The six words of document 01 ("Words of the table"): a layout for each, and the word of given values.
 use Rattle.std.specs.Prelude.{[], ◌∷◌, ℕ, ◌+◌, ◌-◌}
-use Rattle.journeys.specs.Journey.{Contact, contact, Interval, interval}
+use Rattle.journeys.specs.declared.Contact.{Contact}
+use Rattle.journeys.specs.declared.Interval.{Interval}
+use Rattle.journeys.specs.Journey.{contact, interval}
 use Rattle.words.specs.Layout.{Field, bits, Layout, get, pack}
 
 -- ---- unused: kind 0, no field

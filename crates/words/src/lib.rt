@@ -3,9 +3,26 @@
 #![tactic(auto)]
 
 ghost use Rattle.std.specs.Prelude.{◌≡◌, ◌<◌, ◌≤◌, ◌+◌};
-ghost use Rattle.journeys.specs.Journey.{interval, contact};
-ghost use Rattle.words.specs.Layout.{capacity, get, is_of};
-ghost use Rattle.words.specs.Words.{unused_layout, unused_word, departure_field, arrival_field, interval_layout, interval_word, from_field, to_field, tick_field, contact_layout, contact_word, animals_field, ticks_field, carry_field, opening_layout, opening_word, animals_of, ticks_of, carry_of, rows_field, count_layout, count_word, logged_field, end_layout, end_word};
+ghost use Rattle.words.specs.Layout.{capacity, get, is_of, filled};
+ghost use Rattle.words.specs.Words.{unused_layout, unused_word, departure_field, arrival_field, interval_layout, interval_word, interval_of, from_field, to_field, tick_field, contact_layout, contact_word, contact_of, animals_field, ticks_field, carry_field, opening_layout, opening_word, animals_of, ticks_of, carry_of, rows_field, count_layout, count_word, logged_field, end_layout, end_word};
+
+use journeys::{Contact, Interval};
+
+// The field of WIDTH bits, the lowest of them bit LOW.
+fn field<const LOW: u32, const WIDTH: u32>(w: u32) -> u32
+    requires { LOW + WIDTH ≤ 30 }
+    ensures { result ≡ get (record { shift = LOW; width = WIDTH }) w }
+{
+    (w >> LOW) % (1 << WIDTH)
+}
+
+// Whether the word is of the kind and everything outside its lowest WIDTH bits is zero.
+fn is_filled<const KIND: u32, const WIDTH: u32>(w: u32) -> bool
+    requires { (KIND < 4) × (WIDTH ≤ 30) }
+    ensures { result ≡ is_of (filled KIND WIDTH) w }
+{
+    w >> WIDTH == KIND << (30 - WIDTH)
+}
 
 pub fn unused_word() -> u32
     ensures { result ≡ unused_word }
@@ -19,60 +36,81 @@ pub fn is_unused(w: u32) -> bool
     w == 0
 }
 
-pub fn interval_word(departure: u32, arrival: u32) -> u32
-    requires { (departure < capacity departure_field) × (arrival < capacity arrival_field) }
-    ensures { result ≡ interval_word (interval departure arrival) }
+pub fn interval_word(i: Interval) -> u32
+    requires { (i.departure < capacity departure_field) × (i.arrival < capacity arrival_field) }
+    ensures { result ≡ interval_word i }
 {
-    0x4000_0000 + departure * 0x800 + arrival
+    0x4000_0000 + i.departure * 0x800 + i.arrival
 }
 
 pub fn is_interval(w: u32) -> bool
     ensures { result ≡ is_of interval_layout w }
 {
-    w / 0x40_0000 == 0x100
+    is_filled::<1, 22>(w)
 }
 
 pub fn departure_of(w: u32) -> u32
     ensures { result ≡ get departure_field w }
 {
-    w / 0x800 % 0x800
+    field::<11, 11>(w)
 }
 
 pub fn arrival_of(w: u32) -> u32
     ensures { result ≡ get arrival_field w }
 {
-    w % 0x800
+    field::<0, 11>(w)
 }
 
-pub fn contact_word(u: u32, v: u32, t: u32) -> u32
-    requires { (u < capacity from_field) × (v < capacity to_field) × (1 ≤ t) × (t ≤ capacity tick_field) }
-    ensures { result ≡ contact_word (contact u v t) }
+// The interval that the word says.
+pub fn interval_of(w: u32) -> Interval
+    ensures { result ≡ interval_of w }
 {
-    0x4000_0000 + u * 0x4_0000 + v * 0x400 + (t - 1)
+    Interval {
+        departure: departure_of(w),
+        arrival: arrival_of(w),
+    }
+}
+
+pub fn contact_word(k: Contact) -> u32
+    requires { (k.from < capacity from_field) × (k.to < capacity to_field) × (1 ≤ k.tick) × (k.tick ≤ capacity tick_field) }
+    ensures { result ≡ contact_word k }
+{
+    0x4000_0000 + k.from * 0x4_0000 + k.to * 0x400 + (k.tick - 1)
 }
 
 pub fn is_contact(w: u32) -> bool
     ensures { result ≡ is_of contact_layout w }
 {
-    w / 0x400_0000 == 0x10
+    is_filled::<1, 26>(w)
 }
 
 pub fn from_of(w: u32) -> u32
     ensures { result ≡ get from_field w }
 {
-    w / 0x4_0000 % 0x100
+    field::<18, 8>(w)
 }
 
 pub fn to_of(w: u32) -> u32
     ensures { result ≡ get to_field w }
 {
-    w / 0x400 % 0x100
+    field::<10, 8>(w)
 }
 
 pub fn tick_of(w: u32) -> u32
     ensures { result ≡ get tick_field w + 1 }
 {
-    w % 0x400 + 1
+    field::<0, 10>(w) + 1
+}
+
+// The contact that the word says.
+pub fn contact_of(w: u32) -> Contact
+    ensures { result ≡ contact_of w }
+{
+    Contact {
+        from: from_of(w),
+        to: to_of(w),
+        tick: tick_of(w),
+    }
 }
 
 pub fn opening_word(animals: u32, ticks: u32, carry: u32) -> u32
@@ -85,25 +123,25 @@ pub fn opening_word(animals: u32, ticks: u32, carry: u32) -> u32
 pub fn is_opening(w: u32) -> bool
     ensures { result ≡ is_of opening_layout w }
 {
-    w / 0x400_0000 == 0x20
+    is_filled::<2, 26>(w)
 }
 
 pub fn animals_of(w: u32) -> u32
     ensures { result ≡ animals_of w }
 {
-    w / 0x4_0000 % 0x100 + 1
+    field::<18, 8>(w) + 1
 }
 
 pub fn ticks_of(w: u32) -> u32
     ensures { result ≡ ticks_of w }
 {
-    w % 0x400 + 1
+    field::<0, 10>(w) + 1
 }
 
 pub fn carry_of(w: u32) -> u32
     ensures { result ≡ carry_of w }
 {
-    w / 0x400 % 0x100 + 1
+    field::<10, 8>(w) + 1
 }
 
 pub fn count_word(rows: u32) -> u32
@@ -116,13 +154,13 @@ pub fn count_word(rows: u32) -> u32
 pub fn is_count(w: u32) -> bool
     ensures { result ≡ is_of count_layout w }
 {
-    w / 0x800 == 0x18_0000
+    is_filled::<3, 11>(w)
 }
 
 pub fn rows_of(w: u32) -> u32
     ensures { result ≡ get rows_field w }
 {
-    w % 0x800
+    field::<0, 11>(w)
 }
 
 pub fn end_word(logged: u32) -> u32
@@ -135,11 +173,11 @@ pub fn end_word(logged: u32) -> u32
 pub fn is_end(w: u32) -> bool
     ensures { result ≡ is_of end_layout w }
 {
-    w / 0x400_0000 == 0x30
+    is_filled::<3, 26>(w)
 }
 
 pub fn logged_of(w: u32) -> u32
     ensures { result ≡ get logged_field w }
 {
-    w % 0x400_0000
+    field::<0, 26>(w)
 }

@@ -1,21 +1,12 @@
--- `cells::check::row_well_formed` meets its contract: each of its returns is a part of the check of a row.
-use native.Mathlib.Omega.{arith}
-use mathlib.Core.Path.{sym}
-use borrow.Author.Tests.{ltb-true, ltb-false}
-use Rattle.cell_checks.proofs.Checks.{stopped, passed, row-kind, row-departs, row-arrives, row-soon, row_last}
+-- `row_well_formed` meets its contract: where all tests but the last pass, the last decides, and where one of them fails, the word is no row.
+use Rattle.std.proofs.Common.{rules}
+use mathlib.Core.Path.{◌∙◌}
+use Rattle.cell_checks.proofs.Checks.{row-passed, row-failed}
 use Rattle.cell_checks.proofs.row_well_formed.Goals as goal
 
-pub returns-then-not-is_interval : goal.returns-then-not-is_interval
-returns-then-not-is_interval c = sym (row-kind _ _ _ _ _ (stopped c.is_interval.ensures c.if-not-is_interval.true-raw))
+pub returns-then-d-carry : goal.returns-then-d-carry
+returns-then-d-carry c = row-passed _ _ _ _ _ c.is_interval.ensures c.departure_of-d.ensures c.arrival_of-a.ensures (search rules)
 
-pub returns-then-d-p : goal.returns-then-d-p
-returns-then-d-p c = sym (row-departs _ _ _ _ _ ((passed c.is_interval.ensures c.if-not-is_interval.false-raw)) (omega arith))
-
-pub returns-then-a-q : goal.returns-then-a-q
-returns-then-a-q c = sym (row-arrives _ _ _ _ _ ((passed c.is_interval.ensures c.if-not-is_interval.false-raw)) (omega arith) (omega arith))
-
-pub returns-then-a-d : goal.returns-then-a-d
-returns-then-a-d c = sym (row-soon _ _ _ _ _ ((passed c.is_interval.ensures c.if-not-is_interval.false-raw)) (omega arith) (omega arith) (omega arith))
-
-pub returns : goal.returns
-returns c = row_last _ _ _ _ _ ((passed c.is_interval.ensures c.if-not-is_interval.false-raw)) (omega arith) (omega arith) _ (omega arith) (λ e. omega (arith, ltb-true)) (λ e. omega (arith, ltb-false))
+pub returns-else-d-carry : goal.returns-else-d-carry
+returns-else-d-carry c = c.if-d-carry.false
+    ∙ row-failed c.args.ticks c.args.carry c.args.p c.args.q c.args.w c.is_interval.ensures c.departure_of-d.ensures c.arrival_of-a.ensures (search rules)

@@ -3,8 +3,8 @@ use mathlib.Core.Path.{sym, ◌∙◌}
 use Rattle.cells.proofs.Rows.{arrival-found}
 use Rattle.cells.proofs.earliest_arrival.Goals as goal
 
-pub returns-in-At : goal.returns-in-At
-returns-in-At c = arrival-found _ c.args.t c.requires.rising (sym c.in-At.is ∙ c.first_departing-found.ensures)
+pub returns-in_err-row : goal.returns-in_err-row
+returns-in_err-row c = rw c.from_residual.ensures (arrival-found _ c.args.t c.requires.rising (sym c.in_err-row.was ∙ c.first_departing.ensures))
 
-pub returns-in-Nothing : goal.returns-in-Nothing
-returns-in-Nothing c = arrival-found _ c.args.t c.requires.rising (sym c.in-Nothing.is ∙ c.first_departing-found.ensures)
+pub returns : goal.returns
+returns c = arrival-found _ c.args.t c.requires.rising (sym c.in_ok-row.was ∙ c.first_departing.ensures)

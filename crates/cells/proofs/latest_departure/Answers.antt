@@ -3,8 +3,8 @@ use mathlib.Core.Path.{sym, ◌∙◌}
 use Rattle.cells.proofs.Rows.{departure-found}
 use Rattle.cells.proofs.latest_departure.Goals as goal
 
-pub returns-in-At : goal.returns-in-At
-returns-in-At c = departure-found _ c.args.t c.requires.rising (sym c.in-At.is ∙ c.last_arriving-found.ensures)
+pub returns-in_err-row : goal.returns-in_err-row
+returns-in_err-row c = rw c.from_residual.ensures (departure-found _ c.args.t c.requires.rising (sym c.in_err-row.was ∙ c.last_arriving.ensures))
 
-pub returns-in-Nothing : goal.returns-in-Nothing
-returns-in-Nothing c = departure-found _ c.args.t c.requires.rising (sym c.in-Nothing.is ∙ c.last_arriving-found.ensures)
+pub returns : goal.returns
+returns c = departure-found _ c.args.t c.requires.rising (sym c.in_ok-row.was ∙ c.last_arriving.ensures)

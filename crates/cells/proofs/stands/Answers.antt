@@ -1,15 +1,10 @@
--- `cells::stands` meets its contract: the only row that can be [d, a] is the first that departs at or after d.
+-- `cells::stands` meets its contract: the only row that can be the interval is the first that departs at or after it.
 use mathlib.Core.Path.{sym, ◌∙◌}
-use Rattle.cells.proofs.Rows.{stands-found, same-departing, same-apart}
+use Rattle.cells.proofs.Rows.{stands-found}
 use Rattle.cells.proofs.stands.Goals as goal
 
-pub returns-then-d-row : goal.returns-then-d-row
-returns-then-d-row c = same-departing c.args.d c.args.a c.in-At.row.ends.departure c.in-At.row.ends.arrival c.if-d-row.true
-    ∙ (sym (stands-found c.args.d c.args.a _ c.requires.rising (sym c.in-At.is ∙ c.first_departing-found.ensures)))
+pub returns-in-Some : goal.returns-in-Some
+returns-in-Some c = c.eq.ensures ∙ sym (stands-found c.args.interval _ c.requires.rising (sym c.in-Some.is ∙ c.first_departing.ensures))
 
-pub returns-else-d-row : goal.returns-else-d-row
-returns-else-d-row c = same-apart c.args.d c.args.a c.in-At.row.ends.departure c.in-At.row.ends.arrival c.if-d-row.false
-    ∙ (sym (stands-found c.args.d c.args.a _ c.requires.rising (sym c.in-At.is ∙ c.first_departing-found.ensures)))
-
-pub returns-in-Nothing : goal.returns-in-Nothing
-returns-in-Nothing c = (sym (stands-found c.args.d c.args.a _ c.requires.rising (sym c.in-Nothing.is ∙ c.first_departing-found.ensures)))
+pub returns-in-None : goal.returns-in-None
+returns-in-None c = sym (stands-found c.args.interval _ c.requires.rising (sym c.in-None.is ∙ c.first_departing.ensures))

@@ -1,17 +1,17 @@
--- `cells::upper_bound_arrival` meets its contract: it is a search by halves for the arrival. The measure is what is left between `least` and `most`.
-use native.Mathlib.Omega.{arith}
+-- `cells::upper_bound_arrival` meets its contract: the rows that arrive by t stand at the front, and it counts them.
+use mathlib.Core.Bool.{Bool}
+use Prim.Native.Nat.{ℕ, ◌+◌}
+use lib.Dec.{leb}
+use Rattle.std.proofs.Common.{rules}
+use Rattle.std.proofs.lemmas.List.Sorted.{IsPartitionPoint-from_clause}
+use Rattle.words.specs.Words.{interval_of}
 use Rattle.cells.specs.Stored.{arrival_end}
-use Rattle.cells.proofs.Search.{arrival-follows, halves_start, halves_behind, halves_front, halves_end}
+use Rattle.cells.proofs.Search.{arrival-follows, Tests, by-outcome, point-is}
 use Rattle.cells.proofs.upper_bound_arrival.Goals as goal
 
-pub loop-least-init : goal.loop-least-init
-loop-least-init c = halves_start arrival_end _ _
-
-pub loop-least-preserved-then-arrival_of-t : goal.loop-least-preserved-then-arrival_of-t
-loop-least-preserved-then-arrival_of-t c = halves_behind arrival_end _ _ _ _ c.loop-least.invariant (omega arith) arrival-follows c.requires (omega arith)
-
-pub loop-least-preserved : goal.loop-least-preserved
-loop-least-preserved c = halves_front arrival_end _ _ _ _ c.loop-least.invariant (omega arith) (omega arith)
-
 pub returns : goal.returns
-returns c = halves_end arrival_end _ _ _ _ c.loop-least.invariant (omega arith)
+returns c =
+    let p : ℕ → Bool = λ w. leb (arrival_end (interval_of w)) c.args.t in
+    let tests : Tests arrival_end (c.args.t + 1) p = λ w. by-outcome _ _ in
+    point-is arrival_end arrival-follows (c.args.t + 1) c.args.rows.now c.requires p tests _ c.partition_point.ensures.bound
+    (λ h. IsPartitionPoint-from_clause p _ _ c.partition_point.ensures.partitioned h (λ a r q k. search rules))

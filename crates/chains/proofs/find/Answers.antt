@@ -1,53 +1,36 @@
--- `find` meets its contract: each return is a case of the rule.
-use mathlib.Core.Path.{◌≡◌, ap}
-use mathlib.Core.Bool.{not}
-use Prim.Native.Nat.{ℕ, ◌<◌}
+-- `find` meets its contract: the interval kept is that of the first row which departs in the window.
+use mathlib.Core.Path.{◌≡◌}
 use mathlib.Core.List.{List}
-use native.Mathlib.Omega.{arith}
-use Rattle.rules.specs.Layout.{animals, cells_of}
-use Rattle.rules.specs.Checks.{ValidTable}
-use Rattle.rules.proofs.Sound.{opens-length}
-use Rattle.cells.specs.declared.RowFound.{RowFound}
+use Prim.Native.Nat.{ℕ}
+use Rattle.std.specs.Prelude.{Option}
+use Rattle.rules.specs.Layout.{animals, ticks, cell_at, cell_of}
+use Rattle.cells.specs.declared.Row.{Row}
+use Rattle.cells.specs.Stored.{Stored}
 use Rattle.cells.specs.Rows.{first_departing}
-use Rattle.chains.proofs.Replies.{Kept, none_found, none-departs, none-fits, departs, departs-by}
+use Rattle.cells.proofs.Lent.{stored-in_use}
+use Rattle.chains.proofs.Replies.{Kept, none-departs, none-fits, departs, departs-by}
 use Rattle.chains.proofs.find.Goals as goal
 
--- What is known with the row found.
-kept : (T : List ℕ) {u v first : ℕ} {f : RowFound} → ValidTable T → (u < animals T) × (v < animals T) → f ≡ first_departing (cells_of T u v) first → Kept T u v first f
-kept T p b e = record { valid = p; from_below = b.0; to_below = b.1; row_is = e }
+-- The row found, from what the search for it says.
+kept : {T : List ℕ} {u v first : ℕ} {xs : List ℕ} {f : Option Row} → Stored xs → xs ≡ cell_at (animals T) (ticks T) T u v → f ≡ first_departing (cell_of xs) first → Kept T u v first xs f
+kept s l e = record { stored = s; lent = l; row_is = e }
 
-pub bounds-table-0 : goal.bounds-table-0
-bounds-table-0 c = omega (arith, opens-length c.args.table.now c.requires.valid_table.opens)
+pub first_departing-requires : goal.first_departing-requires
+first_departing-requires c = stored-in_use c.cell.ensures.stored
 
-pub returns-then-not-fits : goal.returns-then-not-fits
-returns-then-not-fits c =
-    let k = kept c.args.table.now c.requires.valid_table c.requires.u_bound c.first_departing-found.ensures in
-    let n = c.none.ensures in
-    record {
-      words_value = none_found _ _ _ _ n.0 (none-fits k _ c.in-At.is c.carry_of-carry.ensures c.fits.ensures (ap not c.if-not-fits.true));
-      count_bound = (omega (arith, n.1, k.from_below), n.2);
-    }
+pub returns-in_err-interval-clause-words_value : goal.returns-in_err-interval-clause-words_value
+returns-in_err-interval-clause-words_value c =
+    rw c.from_residual.ensures (none-departs (kept c.cell.ensures.stored c.cell.ensures.words c.first_departing.ensures) _ c.in_err-interval.was)
 
 pub collect-requires : goal.collect-requires
 collect-requires c =
-    let k = kept c.args.table.now c.requires.valid_table c.requires.u_bound c.first_departing-found.ensures in
-    let d = departs-by k c.args.last c.in-At.is in
-    record { valid_table = k.valid; u_bound = (k.from_below, k.to_below, d.0, d.1) }
+    let d = departs-by {T = c.args.table.now} {u = c.args.u} {v = c.args.v} (kept c.cell.ensures.stored c.cell.ensures.words c.first_departing.ensures) c.args.last c.in_ok-interval.was in
+    (c.requires.0, c.requires.1, d.0, d.1)
 
-pub returns-else-not-fits : goal.returns-else-not-fits
-returns-else-not-fits c =
-    let k = kept c.args.table.now c.requires.valid_table c.requires.u_bound c.first_departing-found.ensures in
-    let e = c.collect.ensures in
-    record {
-      words_value = departs k _ c.in-At.is c.carry_of-carry.ensures c.fits.ensures (ap not c.if-not-fits.false) e.words_value;
-      count_bound = e.count_bound;
-    }
+pub returns-then-fits-clause-words_value : goal.returns-then-fits-clause-words_value
+returns-then-fits-clause-words_value c =
+    departs (kept c.cell.ensures.stored c.cell.ensures.words c.first_departing.ensures) _ c.in_ok-interval.was c.carry-carry.ensures c.fits.ensures c.if-fits.true c.collect.ensures.words_value
 
-pub returns-in-Nothing : goal.returns-in-Nothing
-returns-in-Nothing c =
-    let k = kept c.args.table.now c.requires.valid_table c.requires.u_bound c.first_departing-found.ensures in
-    let n = c.none-in-Nothing.ensures in
-    record {
-      words_value = none_found _ _ _ _ n.0 (none-departs k _ c.in-Nothing.is);
-      count_bound = (omega (arith, n.1, k.from_below), n.2);
-    }
+pub returns-else-fits-clause-words_value : goal.returns-else-fits-clause-words_value
+returns-else-fits-clause-words_value c =
+    none-fits (kept c.cell.ensures.stored c.cell.ensures.words c.first_departing.ensures) _ c.in_ok-interval.was c.carry-carry.ensures c.fits.ensures c.if-fits.false

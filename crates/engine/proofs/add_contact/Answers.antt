@@ -1,27 +1,22 @@
 -- `add_contact` meets its contract: each return is a case of the rule.
-use mathlib.Core.Path.{refl, sym, ◌∙◌}
+use Rattle.std.specs.Prelude.{Ok}
+use mathlib.Core.Path.{ap}
 use Rattle.rules.specs.Adding.{add_answer, add_leaves}
 use Rattle.checks.proofs.Judged.{verdict_refused, verdict_passed}
-use Rattle.engine.proofs.Told.{known-told, new_told}
+use Rattle.engine.proofs.Told.{refused-told, refused-kept, given-told}
 use Rattle.engine.proofs.add_contact.Goals as goal
 
-pub add_contact-change-requires : goal.add_contact-change-requires
-add_contact-change-requires c = verdict_passed c.judge_add-verdict.ensures c.in-Passed.is
-
-pub returns-then-change : goal.returns-then-change
-returns-then-change c =
-    let e = verdict_passed c.judge_add-verdict.ensures c.in-Passed.is in
-    let r = c.add_contact-change.ensures in
-    record { value = known-told _ _ e r.cells_value (sym r.known_value ∙ c.if-change.true); table_after = r.table_after }
-
-pub returns-in-Refused : goal.returns-in-Refused
+pub returns-in_err-judge_add : goal.returns-in_err-judge_add
 unfolding add_answer add_leaves
-returns-in-Refused c =
-    let e = verdict_refused c.judge_add-verdict.ensures c.in-Refused.is in
-    record { value = rw e refl; table_after = rw e refl }
+returns-in_err-judge_add c =
+    let e = verdict_refused c.judge_add.ensures c.in_err-judge_add.was in
+    record { value = refused-told e c.from_residual.ensures.1 _; table_after = refused-kept e _ _ }
 
-pub returns-else-change : goal.returns-else-change
-returns-else-change c =
-    let e = verdict_passed c.judge_add-verdict.ensures c.in-Passed.is in
-    let r = c.add_contact-change.ensures in
-    record { value = new_told _ _ e r.cells_value (sym r.known_value ∙ c.if-change.false); table_after = r.table_after }
+pub add_contact-requires : goal.add_contact-requires
+add_contact-requires c = verdict_passed c.judge_add.ensures c.in_ok-judge_add.was
+
+pub returns : goal.returns
+unfolding add_answer
+returns c =
+    let e = verdict_passed c.judge_add.ensures c.in_ok-judge_add.was in
+    record { value = given-told e (ap Ok c.add_contact.ensures.value); table_after = c.add_contact.ensures.table_after }

@@ -1,24 +1,22 @@
 -- `add_stays` meets its contract: each return is a case of the rule.
-use mathlib.Core.Path.{refl, ap}
-use Rattle.rules.specs.declared.StaysAnswer.TheVariants.{Added}
+use Rattle.std.specs.Prelude.{Ok}
+use mathlib.Core.Path.{ap}
 use Rattle.rules.specs.Stays.{stays_answer, stays_leaves}
 use Rattle.checks.proofs.Judged.{verdict_refused, verdict_passed}
+use Rattle.engine.proofs.Told.{refused-told, refused-kept, given-told, given_left}
 use Rattle.engine.proofs.add_stays.Goals as goal
 
-pub add_stays-new-requires : goal.add_stays-new-requires
-add_stays-new-requires c = verdict_passed c.judge_stays-verdict.ensures c.in-Passed.is
-
-pub returns-in-Refused : goal.returns-in-Refused
+pub returns-in_err-judge_stays : goal.returns-in_err-judge_stays
 unfolding stays_answer stays_leaves
-returns-in-Refused c =
-    let e = verdict_refused c.judge_stays-verdict.ensures c.in-Refused.is in
-    record { value = rw e refl; table_after = rw e refl }
+returns-in_err-judge_stays c =
+    let e = verdict_refused c.judge_stays.ensures c.in_err-judge_stays.was in
+    record { value = refused-told e c.from_residual.ensures.1 _; table_after = refused-kept e _ _ }
 
-pub returns-in-Passed : goal.returns-in-Passed
+pub add_stays-requires : goal.add_stays-requires
+add_stays-requires c = verdict_passed c.judge_stays.ensures c.in_ok-judge_stays.was
+
+pub returns : goal.returns
 unfolding stays_answer stays_leaves
-returns-in-Passed c =
-    let e = verdict_passed c.judge_stays-verdict.ensures c.in-Passed.is in
-    record {
-      value = rw e (ap Added c.add_stays-new.ensures.value);
-      table_after = rw e c.add_stays-new.ensures.table_after;
-    }
+returns c =
+    let e = verdict_passed c.judge_stays.ensures c.in_ok-judge_stays.was in
+    record { value = given-told e (ap Ok c.add_stays.ensures.value); table_after = given_left e c.add_stays.ensures.table_after _ }

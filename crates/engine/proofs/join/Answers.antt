@@ -1,25 +1,26 @@
 -- `join` meets its contract: each return is a case of the rule.
-use mathlib.Core.Path.{refl, ap}
-use Rattle.rules.specs.declared.JoinAnswer.TheVariants.{Joined}
+use Rattle.std.specs.Prelude.{Ok}
+use mathlib.Core.Path.{sym, ap}
 use Rattle.rules.specs.Joining.{join_answer, join_leaves}
 use Rattle.rules.proofs.Joining.{join-iff}
-use Rattle.checks.proofs.Judged.{verdict_refused, verdict_passed}
+use Rattle.engine.proofs.Told.{judge-refused, judge-gave, refused-told, refused-kept, given-told, given_left}
 use Rattle.engine.proofs.join.Goals as goal
 
-pub join_held-new-requires : goal.join_held-new-requires
-join_held-new-requires c = let j = (join-iff _ _).0 (verdict_passed c.judge_join-verdict.ensures c.in-Passed.is) in (j.first, j.second, j.opening)
-
-pub returns-in-Refused : goal.returns-in-Refused
+pub returns-in_err-second : goal.returns-in_err-second
 unfolding join_answer join_leaves
-returns-in-Refused c =
-    let e = verdict_refused c.judge_join-verdict.ensures c.in-Refused.is in
-    record { value = rw e refl; first_after = rw e refl }
+returns-in_err-second c =
+    let e = judge-refused _ c.judge_join.ensures c.in_err-second.was in
+    record { value = refused-told e c.from_residual.ensures.1 _; first_after = refused-kept e _ _ }
 
-pub returns-in-Passed : goal.returns-in-Passed
+pub join_held-requires : goal.join_held-requires
+join_held-requires c =
+    let g = judge-gave _ c.judge_join.ensures c.in_ok-second.was in
+    let j = (join-iff _ _).0 g.0 in
+    (j.first, rw (sym g.1) j.opening)
+
+pub returns : goal.returns
 unfolding join_answer join_leaves
-returns-in-Passed c =
-    let e = verdict_passed c.judge_join-verdict.ensures c.in-Passed.is in
-    record {
-      value = rw e (ap Joined c.join_held-new.ensures.value);
-      first_after = rw e c.join_held-new.ensures.first_after;
-    }
+returns c =
+    let g = judge-gave _ c.judge_join.ensures c.in_ok-second.was in
+    let h = c.join_held.ensures in
+    record { value = given-told g.0 (ap Ok (rw (sym g.1) at h.value)); first_after = given_left g.0 (rw (sym g.1) at h.first_after) _ }

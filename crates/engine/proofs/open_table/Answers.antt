@@ -1,23 +1,24 @@
 -- `open_table` meets its contract: each return is a case of the rule.
-use mathlib.Core.Path.{refl}
+use mathlib.Core.Path.{refl, sym}
 use Rattle.rules.specs.Opening.{open_answer, open_leaves}
 use Rattle.rules.proofs.Judged.{open_iff}
-use Rattle.checks.proofs.Judged.{verdict_refused, verdict_passed}
+use Rattle.engine.proofs.Told.{judge-refused, judge-gave, refused-told, refused-kept, given-told, given_left}
 use Rattle.engine.proofs.open_table.Goals as goal
+
+pub returns-in_err-opening : goal.returns-in_err-opening
+unfolding open_answer open_leaves
+returns-in_err-opening c =
+    let e = judge-refused _ c.judge_open.ensures c.in_err-opening.was in
+    record { value = refused-told e c.from_residual.ensures.1 _; table_after = refused-kept e _ _ }
 
 pub write_opened-requires : goal.write_opened-requires
 write_opened-requires c =
-    let r = (open_iff c.args.animals c.args.ticks c.args.carry c.args.table.now).0 (verdict_passed c.judge_open-verdict.ensures c.in-Passed.is) in
-    record { sizes = r.0; table_len = r.1 }
+    let g = judge-gave _ c.judge_open.ensures c.in_ok-opening.was in
+    let r = (open_iff _ _ _ _).0 g.0 in
+    record { sizes = rw (sym g.1) r.0; table_len = rw (sym g.1) r.1 }
 
-pub returns-in-Refused : goal.returns-in-Refused
+pub returns : goal.returns
 unfolding open_answer open_leaves
-returns-in-Refused c =
-    let e = verdict_refused c.judge_open-verdict.ensures c.in-Refused.is in
-    record { value = rw e refl; table_after = rw e refl }
-
-pub returns-in-Passed : goal.returns-in-Passed
-unfolding open_answer open_leaves
-returns-in-Passed c =
-    let e = verdict_passed c.judge_open-verdict.ensures c.in-Passed.is in
-    record { value = rw e refl; table_after = rw e c.write_opened.ensures }
+returns c =
+    let g = judge-gave _ c.judge_open.ensures c.in_ok-opening.was in
+    record { value = given-told g.0 refl; table_after = given_left g.0 (rw (sym g.1) at c.write_opened.ensures) _ }

@@ -1,23 +1,22 @@
 -- `read_log` meets its contract: each return is a case of the rule.
-use mathlib.Core.Path.{refl}
+use Rattle.std.specs.Prelude.{Ok}
+use mathlib.Core.Path.{ap}
 use Rattle.rules.specs.Reading.{read_answer, read_leaves}
 use Rattle.checks.proofs.Judged.{verdict_refused, verdict_passed}
+use Rattle.engine.proofs.Told.{refused-told, refused-kept, given-told, given_left}
 use Rattle.engine.proofs.read_log.Goals as goal
 
-pub load-different-requires : goal.load-different-requires
-load-different-requires c = verdict_passed c.judge_read-verdict.ensures c.in-Passed.is
-
-pub returns-in-Refused : goal.returns-in-Refused
+pub returns-in_err-judge_read : goal.returns-in_err-judge_read
 unfolding read_answer read_leaves
-returns-in-Refused c =
-    let e = verdict_refused c.judge_read-verdict.ensures c.in-Refused.is in
-    record { value = rw e refl; table_after = rw e refl }
+returns-in_err-judge_read c =
+    let e = verdict_refused c.judge_read.ensures c.in_err-judge_read.was in
+    record { value = refused-told e c.from_residual.ensures.1 _; table_after = refused-kept e _ _ }
 
-pub returns-in-Passed : goal.returns-in-Passed
+pub load-requires : goal.load-requires
+load-requires c = verdict_passed c.judge_read.ensures c.in_ok-judge_read.was
+
+pub returns : goal.returns
 unfolding read_answer read_leaves
-returns-in-Passed c =
-    let e = verdict_passed c.judge_read-verdict.ensures c.in-Passed.is in
-    record {
-      value = rw (e, c.load-different.ensures.value) refl;
-      table_after = rw e c.load-different.ensures.table_after;
-    }
+returns c =
+    let e = verdict_passed c.judge_read.ensures c.in_ok-judge_read.was in
+    record { value = given-told e (ap Ok c.load.ensures.value); table_after = given_left e c.load.ensures.table_after _ }

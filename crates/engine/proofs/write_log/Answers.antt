@@ -1,47 +1,41 @@
 -- `write_log` meets its contract: each return is a case of the rule.
+use Rattle.std.specs.Prelude.{Ok, List, ℕ}
 use mathlib.Core.Path.{refl, sym, ap, ◌∙◌}
-use mathlib.Core.Option.{Option, none}
-use mathlib.Core.List.{List}
-use Prim.Native.Nat.{ℕ, ◌+◌}
-use lib.Dec.{leb}
-use lib.ListN.{length}
-use Rattle.rules.specs.declared.Refusal.{Refusal}
-use Rattle.rules.specs.declared.Refusal.TheVariants.{LogBufferTooShort}
-use Rattle.rules.specs.declared.WriteAnswer.TheVariants.{Written}
-use Rattle.rules.specs.Answers.{ensure}
-use Rattle.rules.specs.Logs.{held_contacts, write_refusal, write_answer, write_leaves}
-use Rattle.rules.proofs.Groups.{table-group, behind-valid}
-use Rattle.checks.proofs.Judged.{verdict_refused, table-valid}
+use Rattle.rules.specs.Logs.{write_refusal, write_answer, write_leaves}
+use Rattle.rules.proofs.Groups.{table-group}
+use Rattle.logs.specs.Written.{written}
+use Rattle.engine.proofs.Told.{judge-refused, judge-gave, refused-told, refused-kept, given-told}
+use Rattle.engine.proofs.Room.{room_check, short-is, long_is}
 use Rattle.engine.proofs.write_log.Goals as goal
 
--- What is checked behind 5 and 6.
-abbrev room_check : List ℕ → List ℕ → Option Refusal
-room_check T B = ensure (leb (length (held_contacts T) + 2) (length B)) LogBufferTooShort none
-
-pub write_held-wrote-requires : goal.write_held-wrote-requires
-write_held-wrote-requires c = table-valid c.args.table.now c.judge_table-whole.ensures c.in-Passed.is
-
-pub returns-then-wrote : goal.returns-then-wrote
+pub returns-in_err-table : goal.returns-in_err-table
 unfolding write_answer write_leaves write_refusal
-returns-then-wrote c =
+returns-in_err-table c =
     let T = c.args.table.now in
-    let r = c.write_held-wrote.ensures in
-    let v = behind-valid T (table-valid T c.judge_table-whole.ensures c.in-Passed.is) (room_check T c.args.buffer.now) in
-    let t = sym r.fits_value ∙ c.if-wrote.true in
-    record { value = rw (v, t) (ap Written r.words_value); buffer_after = rw (v, t) (rw t at r.buffer_after) }
+    let e = (table-group T).refuses _ (judge-refused _ c.judge_table.ensures c.in_err-table.was) (room_check T c.args.buffer.now) in
+    record { value = refused-told e c.from_residual.ensures.1 _; buffer_after = refused-kept e _ _ }
 
-pub returns-in-Refused : goal.returns-in-Refused
+pub returns-in_err-written : goal.returns-in_err-written
 unfolding write_answer write_leaves write_refusal
-returns-in-Refused c =
+returns-in_err-written c =
     let T = c.args.table.now in
-    let e = (table-group T).refuses _ (verdict_refused c.judge_table-whole.ensures c.in-Refused.is) (room_check T c.args.buffer.now) in
-    record { value = rw e refl; buffer_after = rw e refl }
+    let B = c.args.buffer.now in
+    let g = judge-gave _ c.judge_table.ensures c.in_ok-table.was in
+    let h = c.write_held.ensures in
+    let v = (table-group T).passes g.0 (room_check T B) in
+    let t = short-is T B (ap (λ (x : List ℕ). written x B) g.1 ∙ sym h.value ∙ c.in_err-written.was) in
+    record {
+      value = refused-told (v ∙ rw t refl) c.from_residual-in_err-written.ensures.1 _;
+      buffer_after = rw (v, t) (rw (sym g.1, t) at h.buffer_after);
+    }
 
-pub returns-else-wrote : goal.returns-else-wrote
+pub returns : goal.returns
 unfolding write_answer write_leaves write_refusal
-returns-else-wrote c =
+returns c =
     let T = c.args.table.now in
-    let r = c.write_held-wrote.ensures in
-    let v = behind-valid T (table-valid T c.judge_table-whole.ensures c.in-Passed.is) (room_check T c.args.buffer.now) in
-    let t = sym r.fits_value ∙ c.if-wrote.false in
-    record { value = rw (v, t) refl; buffer_after = rw (v, t) (rw t at r.buffer_after) }
+    let B = c.args.buffer.now in
+    let g = judge-gave _ c.judge_table.ensures c.in_ok-table.was in
+    let h = c.write_held.ensures in
+    let v = (table-group T).passes g.0 (room_check T B) in
+    let t = long_is T B (ap (λ (x : List ℕ). written x B) g.1 ∙ sym h.value ∙ c.in_ok-written.was) in
+    record { value = given-told (v ∙ rw t.0 refl) (ap Ok t.1); buffer_after = rw (v, t.0) (rw (sym g.1, t.0) at h.buffer_after) }

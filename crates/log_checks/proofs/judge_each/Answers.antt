@@ -1,20 +1,16 @@
--- `judge_each` meets its contract. The loop's invariant: the words passed are legal. The measure is how many are left.
-use mathlib.Core.Path.{refl}
+-- `judge_each` meets its contract. The loop's invariant: the words passed are legal.
 use native.Mathlib.Omega.{arith}
-use Rattle.log_checks.proofs.Logged.{judging_start, judging_no_contact, judging_not_legal, judging_turn, judging_end}
+use Rattle.log_checks.proofs.Logged.{judging_start, judging_refused, judging_turn, judging_end}
 use Rattle.log_checks.proofs.judge_each.Goals as goal
 
-pub loop-i-init : goal.loop-i-init
-loop-i-init c = (refl, judging_start _ _ _)
+pub loop-w-init : goal.loop-w-init
+loop-w-init c = judging_start _ _ _
 
-pub returns-in-NoContact : goal.returns-in-NoContact
-returns-in-NoContact c = judging_no_contact c.loop-i.invariant.1 (omega arith) c.judge_word-word.ensures c.in-NoContact.is
+pub returns-in_err-judge_word : goal.returns-in_err-judge_word
+returns-in_err-judge_word c = judging_refused c.loop-w.invariant (omega arith) c.judge_word.ensures c.in_err-judge_word.was c.from_residual.ensures.1
 
-pub returns-in-NotLegal : goal.returns-in-NotLegal
-returns-in-NotLegal c = judging_not_legal c.loop-i.invariant.1 (omega arith) c.judge_word-word.ensures c.in-NotLegal.is
-
-pub loop-i-preserved : goal.loop-i-preserved
-loop-i-preserved c = (c.loop-i.invariant.0, judging_turn c.loop-i.invariant.1 (omega arith) c.judge_word-word.ensures c.in-Legal.is)
+pub loop-w-preserved : goal.loop-w-preserved
+loop-w-preserved c = judging_turn c.loop-w.invariant (omega arith) c.judge_word.ensures c.in_ok-judge_word.was
 
 pub returns : goal.returns
-returns c = judging_end c.loop-i.invariant.1 (omega arith)
+returns c = judging_end c.loop-w.invariant (omega arith)

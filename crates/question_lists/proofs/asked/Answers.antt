@@ -1,6 +1,9 @@
 -- The record has the answer of a single reach.
-use Rattle.question_lists.proofs.Planned.{record-filled}
+use mathlib.Core.Path.{ap, ◌∙◌}
+use Rattle.rules.specs.QuestionList.{record_answer_of, asked}
+use Rattle.question_lists.proofs.Planned.{with_answer}
 use Rattle.question_lists.proofs.asked.Goals as goal
 
 pub returns : goal.returns
-returns c = record-filled c.args.table.now c.args.q _ _ c.reach_checked-reply.ensures c.record_answer-answer.ensures
+unfolding asked
+returns c = ap (with_answer c.args.q) (c.record_answer.ensures ∙ ap record_answer_of c.reach_checked-reply.ensures)

@@ -1,22 +1,14 @@
 -- `connected` meets its contract: each return is a case of the rule.
-use mathlib.Core.Path.{refl, sym, ◌∙◌}
-use Rattle.rules.specs.Questions.{connected_refusal, connected_answer}
-use Rattle.rules.proofs.Asked.{valid-behind}
-use Rattle.checks.proofs.Judged.{verdict_refused, verdict_passed}
+use Rattle.std.specs.Prelude.{Ok, List, ℕ}
+use mathlib.Core.Path.{ap}
+use Rattle.rules.specs.Questions.{connects, connected_answer}
+use Rattle.questions.proofs.Asking.{judged_exit, judged_answer}
 use Rattle.questions.proofs.connected.Goals as goal
 
-pub connects-requires : goal.connects-requires
-unfolding connected_refusal
-connects-requires c = (valid-behind c.args.table.now ((verdict_passed c.judge_connected-verdict.ensures c.in-Passed.is))).0
-
-pub returns-then-connects : goal.returns-then-connects
+pub returns-in_err-table : goal.returns-in_err-table
 unfolding connected_answer
-returns-then-connects c = rw ((verdict_passed c.judge_connected-verdict.ensures c.in-Passed.is), sym c.connects.ensures ∙ c.if-connects.true) refl
+returns-in_err-table c = judged_exit _ _ _ c.judge_connected.ensures c.in_err-table.was c.from_residual.ensures.1
 
-pub returns-in-Refused : goal.returns-in-Refused
+pub returns : goal.returns
 unfolding connected_answer
-returns-in-Refused c = rw (verdict_refused c.judge_connected-verdict.ensures c.in-Refused.is) refl
-
-pub returns-else-connects : goal.returns-else-connects
-unfolding connected_answer
-returns-else-connects c = rw ((verdict_passed c.judge_connected-verdict.ensures c.in-Passed.is), sym c.connects.ensures ∙ c.if-connects.false) refl
+returns c = judged_answer _ _ (λ (T : List ℕ). Ok (connects T c.args.first c.args.last)) c.judge_connected.ensures c.in_ok-table.was (ap Ok c.connects.ensures)

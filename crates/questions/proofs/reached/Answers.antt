@@ -1,19 +1,26 @@
 -- `reached` meets its contract: each return is a case of the rule.
-use mathlib.Core.Path.{refl}
-use mathlib.Core.Option.{none}
+use Rattle.std.specs.Prelude.{None, Ok, List, ℕ, ◌<◌}
+use mathlib.Core.Path.{sym, ap, ◌∙◌, subst}
+use Rattle.rules.specs.declared.AnimalSet.{AnimalSet}
+use Rattle.rules.specs.Folds.{count_below}
+use Rattle.rules.specs.Layout.{animals}
 use Rattle.rules.specs.Windows.{ensure_window}
-use Rattle.rules.specs.Questions.{reached_refusal, reached_answer, reached_words, reached_count}
-use Rattle.checks.proofs.Judged.{animal-behind, verdict_refused, verdict_passed}
+use Rattle.rules.specs.Questions.{is_reached, set_words, reached_refusal, reached_words, reached_count, reached_set}
+use Rattle.checks.proofs.Judged.{animal-behind}
+use Rattle.questions.proofs.Asking.{judged_given}
 use Rattle.questions.proofs.reached.Goals as goal
 
 pub collect-requires : goal.collect-requires
 unfolding reached_refusal
-collect-requires c = let r = animal-behind c.args.table.now c.args.u (ensure_window c.args.table.now c.args.first c.args.last none) ((verdict_passed c.judge_reached-verdict.ensures c.in-Passed.is)) in record { valid_table = r.0; u_bound = r.1 }
+collect-requires c =
+    let a = c.args in
+    let g = judged_given a.table.now c.judge_reached.ensures c.in_ok-table.was in
+    subst (λ (T : List ℕ). a.u < animals T) (sym g.1) (animal-behind a.table.now a.u (ensure_window a.table.now a.first a.last None) g.0).1
 
-pub returns-in-Refused : goal.returns-in-Refused
-unfolding reached_answer reached_words reached_count
-returns-in-Refused c = let e = verdict_refused c.judge_reached-verdict.ensures c.in-Refused.is in record { answer_value = rw e refl; words_value = rw e c.empty.ensures.words_value; count_value = rw e c.empty.ensures.count_value }
-
-pub returns-in-Passed : goal.returns-in-Passed
-unfolding reached_answer reached_words reached_count
-returns-in-Passed c = let e = (verdict_passed c.judge_reached-verdict.ensures c.in-Passed.is) in record { answer_value = rw e refl; words_value = rw e c.collect.ensures.words_value; count_value = rw e c.collect.ensures.count_value }
+pub returns : goal.returns
+unfolding reached_set reached_words reached_count
+returns c =
+    let a = c.args in
+    let g = judged_given a.table.now c.judge_reached.ensures c.in_ok-table.was in
+    let set : List ℕ → AnimalSet = λ T. record { words = set_words T a.u a.first a.last; count = count_below (is_reached T a.u a.first a.last) (animals T) } in
+    rw g.0 (ap Ok (c.collect.ensures ∙ ap set g.1))

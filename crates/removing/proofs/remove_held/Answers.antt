@@ -1,6 +1,8 @@
--- `remove_held` meets its contract: the second table is built, and its words are copied to the first.
-use mathlib.Core.Path.{◌∙◌}
+-- `remove_held` meets its contract: the second table is as long as the opening word of the first says.
+use mathlib.Core.Path.{sym, ◌∙◌}
+use Rattle.rules.proofs.Sound.{opens-length}
 use Rattle.removing.proofs.remove_held.Goals as goal
 
-pub returns : goal.returns
-returns c = record { table_after = c.copy.ensures ∙ c.build_without.ensures; work_after = c.build_without.ensures }
+pub build_without-requires : goal.build_without-requires
+build_without-requires c =
+    rw c.of_valid.ensures (sym c.requires.table_len ∙ opens-length _ c.requires.valid_table.opens)

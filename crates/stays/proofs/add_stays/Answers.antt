@@ -1,7 +1,7 @@
 -- `add_stays` meets its contract. The loop's invariant: the contacts of the ticks passed are added. The measure is how many ticks are left.
+use Rattle.std.specs.Prelude.{None}
 use Prim.Native.Nat.{ℕ, ◌≤◌}
 use mathlib.Core.Path.{◌≡◌, sym, subst}
-use mathlib.Core.Option.{none}
 use mathlib.Core.List.{List}
 use native.Mathlib.Omega.{arith}
 use lib.ListN.{length}
@@ -13,7 +13,7 @@ use Rattle.stays.proofs.Meetings.{tick-meetings, table-valid, contacts-addable, 
 use Rattle.stays.proofs.add_stays.Goals as goal
 
 -- The table has a first word.
-long : (T W : List ℕ) → stays_refusal T W ≡ none → 1 ≤ length T
+long : (T W : List ℕ) → stays_refusal T W ≡ None → 1 ≤ length T
 long T W h = omega (arith, opens-length T (table-valid T W h).opens)
 
 pub bounds-table-0 : goal.bounds-table-0

@@ -1,12 +1,14 @@
--- `all_cells_well_formed` meets its contract. The loop's invariant: the cells from the animals so far are well formed. The measure is the number
--- of animals left.
-use Prim.Native.Nat.{◌+◌, ◌-◌, ◌*◌}
-use Rattle.grid.proofs.Reading.{Through, Tested}
-use Rattle.tables.specs.Cells.{cells_from_at}
+-- `all_cells_well_formed` meets its contract. The loop's invariant: the cells so far are well formed.
+use Prim.Native.Nat.{◌+◌, ◌*◌}
+use Rattle.std.specs.Iterator.Adapters.{enumerate_source, enumerate_count}
+use Rattle.std.specs.Slice.Iter.{chunks_exact_rest, chunks_exact_size}
+use Rattle.grid.proofs.Reading.{Chunks, Tested}
+use Rattle.tables.specs.Cells.{cell_of_well_formed}
 use Rattle.tables.proofs.all_cells_well_formed.Given as goal
 
-abbrev pub invariant-loop-u : goal.invariant-loop-u
-invariant-loop-u l = Through (l.n * (l.ticks + 1)) l.n l.at l.u × Tested (cells_from_at l.ticks l.carry l.n l.body) l.n l.u
-
-abbrev pub decreases-loop-u : goal.decreases-loop-u
-decreases-loop-u l = l.n - l.u
+abbrev pub invariant-loop-k : goal.invariant-loop-k
+invariant-loop-k l =
+    let cells = enumerate_source l.k-iterator in
+    let k = enumerate_count l.k-iterator in
+    Chunks (l.ticks + 1) (l.n * l.n) l.body (chunks_exact_rest cells) (chunks_exact_size cells) k
+    × Tested (cell_of_well_formed l.ticks l.carry l.n l.body) (l.n * l.n) k

@@ -1,20 +1,19 @@
 -- `cell` meets its contract: the opening word says where the cell lies after it.
 use native.Mathlib.Omega.{arith}
-use Prim.Native.Nat.{ℕ, ◌+◌, ◌≤◌}
+use Prim.Native.Nat.{ℕ, ◌+◌}
 use mathlib.Core.Path.{ap, ◌∙◌}
-use lib.ListN.{length}
-use Rattle.rules.proofs.Sound.{opens-length}
+use Rattle.tables.proofs.Openings.{opened}
 use Rattle.tables.proofs.Stored.{lent-cells, lent-cell}
 use Rattle.tables.proofs.cell.Goals as goal
 
 pub bounds-table-0 : goal.bounds-table-0
-bounds-table-0 c = omega (arith, (let it : 1 ≤ length c.args.table.now = omega (arith, opens-length c.args.table.now c.requires.valid_table.opens) in it))
+bounds-table-0 c = omega (arith, opened c.args.table.now c.requires.valid_table.opens)
 
 pub slice_bounds-cell-count : goal.slice_bounds-cell-count
-slice_bounds-cell-count c = omega (arith, (let it : 1 ≤ length c.args.table.now = omega (arith, opens-length c.args.table.now c.requires.valid_table.opens) in it))
+slice_bounds-cell-count c = omega (arith, opened c.args.table.now c.requires.valid_table.opens)
 
 pub slice_bounds-cell-start : goal.slice_bounds-cell-start
-slice_bounds-cell-start c = omega (arith, (let it : 1 ≤ length c.args.table.now = omega (arith, opens-length c.args.table.now c.requires.valid_table.opens) in it))
+slice_bounds-cell-start c = omega (arith, opened c.args.table.now c.requires.valid_table.opens)
 
 pub cell-requires : goal.cell-requires
 cell-requires c = let e = c.of_word-o.ensures in

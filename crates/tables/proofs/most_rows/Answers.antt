@@ -1,14 +1,12 @@
 -- `most_rows` meets its contract.
-use native.Mathlib.Omega.{arith}
-use mathlib.Core.Path.{refl}
-use borrow.Author.Tests.{eq-eqb, ne_eqb}
+use Rattle.std.proofs.Common.{rules}
 use Rattle.tables.specs.Cells.{most_rows}
 use Rattle.tables.proofs.most_rows.Goals as goal
 
 pub returns-then-u-v : goal.returns-then-u-v
 unfolding most_rows
-returns-then-u-v c = rw (eq-eqb c.args.u c.args.v (omega arith)) refl
+returns-then-u-v c = search rules
 
-pub returns : goal.returns
+pub returns-else-u-v : goal.returns-else-u-v
 unfolding most_rows
-returns c = rw (ne_eqb c.args.u c.args.v (λ z. omega arith)) refl
+returns-else-u-v c = search rules

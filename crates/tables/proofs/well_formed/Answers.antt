@@ -1,26 +1,25 @@
 -- `well_formed` meets its contract: the opening word says how the words after it lie in cells.
 use native.Mathlib.Omega.{arith}
-use Prim.Native.Nat.{◌≤◌}
 use mathlib.Core.Path.{◌∙◌}
-use lib.ListN.{length, get_or}
+use lib.ListN.{get_or}
 use Rattle.words.proofs.Packed.{animals_of-bound, ticks_of-bound, carry_of-bound}
-use Rattle.rules.proofs.Sound.{opens-length}
-use Rattle.tables.proofs.Cells.{cells-inside, cells-formed}
+use Rattle.tables.proofs.Openings.{opened}
+use Rattle.tables.proofs.Cells.{cells-fill, cells-formed}
 use Rattle.tables.proofs.well_formed.Goals as goal
 
 pub bounds-table-0 : goal.bounds-table-0
-bounds-table-0 c = omega (arith, (let it : 1 ≤ length c.args.table.now = omega (arith, opens-length c.args.table.now c.requires) in it))
+bounds-table-0 c = omega (arith, opened c.args.table.now c.requires)
 
 pub slice_bounds-all_cells_well_formed-count : goal.slice_bounds-all_cells_well_formed-count
-slice_bounds-all_cells_well_formed-count c = omega (arith, (let it : 1 ≤ length c.args.table.now = omega (arith, opens-length c.args.table.now c.requires) in it))
+slice_bounds-all_cells_well_formed-count c = omega (arith, opened c.args.table.now c.requires)
 
 pub slice_bounds-all_cells_well_formed-start : goal.slice_bounds-all_cells_well_formed-start
-slice_bounds-all_cells_well_formed-start c = omega (arith, (let it : 1 ≤ length c.args.table.now = omega (arith, opens-length c.args.table.now c.requires) in it))
+slice_bounds-all_cells_well_formed-start c = omega (arith, opened c.args.table.now c.requires)
 
 pub all_cells_well_formed-requires : goal.all_cells_well_formed-requires
 all_cells_well_formed-requires c = let e = c.of_word-o.ensures in
     let w = get_or c.args.table.now 0 0 in
-    let r = cells-inside c.args.table.now _ _ _ e.0 e.1 e.2 c.requires in
+    let r = cells-fill c.args.table.now _ _ _ e.0 e.1 e.2 c.requires in
     (omega (arith, animals_of-bound w), omega (arith, ticks_of-bound w), omega (arith, carry_of-bound w), r)
 
 pub returns : goal.returns

@@ -1,30 +1,19 @@
--- `walks::connects` meets its contract. The loop's invariant: the animals passed join all others. The measure is how many animals are
--- left.
-use mathlib.Core.Path.{ap}
-use mathlib.Core.Bool.{not}
-use native.Mathlib.Omega.{arith}
-use Rattle.rules.proofs.Sound.{opens-length}
-use Rattle.grid.proofs.Reading.{tested-start, tested-turn, tested-stop, tested-end}
-use Rattle.animal_loops.proofs.Joined.{all-connected}
+-- `walks::connects` meets its contract: the range tests all animals.
+use Rattle.std.proofs.Common.{rules, ◌≡◌, ◌∙◌, ap, refl, arith}
+use Rattle.std.specs.List.{list_all, range_with_len}
+use Rattle.std.proofs.lemmas.Iterator.{YieldsList-from_range}
+use Rattle.std.proofs.lemmas.Iterator.Search.{all_from_yields_List}
+use Rattle.rules.specs.Folds.{all_below}
+use Rattle.rules.specs.Questions.{connects}
+use Rattle.animal_loops.specs.Walks.{joins, joins_all}
+use Rattle.animal_loops.proofs.Joined.{all-in-range}
 use Rattle.animal_loops.proofs.walks.connects.Goals as goal
 
-pub bounds-table-0 : goal.bounds-table-0
-bounds-table-0 c = omega (arith, opens-length c.args.table.now c.requires.opens)
-
-pub loop-u-init : goal.loop-u-init
-loop-u-init c = tested-start _ _
-
-pub joins_all-requires : goal.joins_all-requires
-joins_all-requires c = record { valid_table = c.requires; u_lt_n = (omega arith, c.animals_of-n.ensures) }
-
-pub returns-then-not-joins_all : goal.returns-then-not-joins_all
-returns-then-not-joins_all c =
-    let t = tested-stop c.loop-u.invariant (omega arith) c.joins_all.ensures (ap not c.if-not-joins_all.true) in
-    all-connected c.args.table.now c.args.first c.args.last _ c.animals_of-n.ensures t
-
-pub loop-u-preserved : goal.loop-u-preserved
-loop-u-preserved c = tested-turn c.loop-u.invariant (omega arith) c.joins_all.ensures (ap not c.if-not-joins_all.false)
-
 pub returns : goal.returns
+unfolding connects joins_all joins
 returns c =
-    all-connected c.args.table.now c.args.first c.args.last _ c.animals_of-n.ensures (tested-end c.loop-u.invariant (omega arith))
+    let a = c.args in
+    let n = c.animals-n.result in
+    let p = joins_all a.table.now a.first a.last in
+    let ran : c.all.result ≡ list_all p (range_with_len 0 n) = all_from_yields_List p _ _ _ c.all.ensures.ran (YieldsList-from_range 0 n n refl (omega arith)) (λ x b q k. search rules) in
+    ran ∙ all-in-range p n ∙ ap (all_below p) c.animals-n.ensures

@@ -1,32 +1,17 @@
--- `walks::joins_all` meets its contract. The loop's invariant: u joins the animals passed. The measure is how many animals are left.
-use mathlib.Core.Path.{ap, subst}
-use mathlib.Core.Bool.{not}
-use Prim.Native.Nat.{ℕ, ◌<◌}
-use native.Mathlib.Omega.{arith}
-use Rattle.grid.proofs.Reading.{tested-start, tested-turn, tested-stop, tested-end}
-use Rattle.animal_loops.proofs.Joined.{all-joined}
+-- `walks::joins_all` meets its contract: the range tests all animals.
+use Rattle.std.proofs.Common.{rules, ◌≡◌, ◌∙◌, ◌-◌, ap, refl, arith}
+use Rattle.std.specs.List.{list_all, range_with_len}
+use Rattle.std.proofs.lemmas.Iterator.{YieldsList-from_range}
+use Rattle.std.proofs.lemmas.Iterator.Search.{all_from_yields_List}
+use Rattle.rules.specs.Folds.{all_below}
+use Rattle.animal_loops.specs.Walks.{joins, joins_all}
+use Rattle.animal_loops.proofs.Joined.{all-in-range}
 use Rattle.animal_loops.proofs.walks.joins_all.Goals as goal
 
-pub loop-v-init : goal.loop-v-init
-loop-v-init c = tested-start _ _
-
-pub joins-requires : goal.joins-requires
-joins-requires c =
-    let e = c.requires.u_lt_n.1 in
-    let h : c.loop-v.v < c.args.n = omega arith in
-    record {
-      valid_table = c.requires.valid_table;
-      u_bound = (subst (λ (m : ℕ). c.args.u < m) e c.requires.u_lt_n.0, subst (λ (m : ℕ). c.loop-v.v < m) e h);
-    }
-
-pub returns-then-not-joins : goal.returns-then-not-joins
-returns-then-not-joins c =
-    let t = tested-stop c.loop-v.invariant (omega arith) c.joins.ensures (ap not c.if-not-joins.true) in
-    all-joined c.args.table.now c.args.first c.args.last c.args.u _ c.requires.u_lt_n.1 t
-
-pub loop-v-preserved : goal.loop-v-preserved
-loop-v-preserved c = tested-turn c.loop-v.invariant (omega arith) c.joins.ensures (ap not c.if-not-joins.false)
-
 pub returns : goal.returns
+unfolding joins_all
 returns c =
-    all-joined c.args.table.now c.args.first c.args.last c.args.u _ c.requires.u_lt_n.1 (tested-end c.loop-v.invariant (omega arith))
+    let a = c.args in
+    let p = joins a.table.now a.first a.last a.u in
+    let ran : c.all.result ≡ list_all p (range_with_len 0 a.n) = all_from_yields_List p _ _ _ c.all.ensures.ran (YieldsList-from_range 0 a.n a.n refl (omega arith)) (λ x b q k. search rules) in
+    ran ∙ all-in-range p a.n ∙ ap (all_below p) c.requires.1

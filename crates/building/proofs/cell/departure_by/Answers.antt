@@ -1,5 +1,6 @@
 -- `cell::departure_by` meets its contract.
-use mathlib.Core.Path.{◌∙◌}
+use mathlib.Core.Path.{ap, ◌∙◌}
+use Rattle.std.specs.Prelude.{Some}
 use native.Mathlib.Omega.{arith}
 use Rattle.building.proofs.RowsInUse.{counted, searchable, latest-empty, latest-last}
 use Rattle.building.proofs.cell.departure_by.Goals as goal
@@ -15,7 +16,7 @@ bounds-cell-end c = let p = counted c.requires c.rows_of-end.ensures in omega ar
 
 pub returns-then-arrival_of-t : goal.returns-then-arrival_of-t
 returns-then-arrival_of-t c =
-    c.departure_of.ensures ∙ latest-last _ (counted c.requires c.rows_of-end.ensures) c.if-end-eq0.false (omega (arith, c.arrival_of.ensures))
+    ap Some c.departure_of.ensures ∙ latest-last _ (counted c.requires c.rows_of-end.ensures) c.if-end-eq0.false (omega (arith, c.arrival_of.ensures))
 
 pub latest_departure-requires : goal.latest_departure-requires
 latest_departure-requires c = searchable c.requires

@@ -3,11 +3,11 @@ use native.Mathlib.Omega.{arith}
 use Rattle.building.proofs.MarkingContacts.{contact-can_mark, contact-marked}
 use Rattle.building.proofs.mark_words.mark_contact.Goals as goal
 
-pub overflow_mul-u : goal.overflow_mul-u
-overflow_mul-u c = omega (arith, (contact-can_mark c.requires).place.cell_below)
+pub overflow_mul-cell : goal.overflow_mul-cell
+overflow_mul-cell c = omega (arith, (contact-can_mark c.requires).place.cell_below)
 
-pub overflow_add-u : goal.overflow_add-u
-overflow_add-u c = omega (arith, (contact-can_mark c.requires).place.cell_below)
+pub overflow_add-cell : goal.overflow_add-cell
+overflow_add-cell c = omega (arith, (contact-can_mark c.requires).place.cell_below)
 
 pub mark-requires : goal.mark-requires
 mark-requires c = contact-can_mark c.requires

@@ -1,28 +1,29 @@
 -- `pairs::departure_with` meets its contract: only the last row that arrives by b can have arrival b.
-use Rattle.rules.specs.Layout.{cells_of}
-use Rattle.chains.proofs.Lending.{cell-rises, with_none, with_apart, with_late, with_here}
+use Rattle.rules.specs.Chains.{departure_with}
+use Rattle.cells.proofs.Lent.{stored-in_use}
+use Rattle.tables.proofs.Stored.{cell-read}
+use Rattle.chains.proofs.Lending.{with_none, with_other, with_here, row_departs}
 use Rattle.chains.proofs.pairs.departure_with.Goals as goal
 
-pub returns-then-row-b : goal.returns-then-row-b
-returns-then-row-b c =
-    let T = c.args.table.now in
-    let r = cell-rises T c.requires.valid_table c.args.u c.args.v c.requires.u_bound.0 c.requires.u_bound.1 in
-    with_apart (cells_of T c.args.u c.args.v) c.args.a c.args.b r c.last_arriving-found.ensures c.in-At.is c.if-row-b.true
+pub last_arriving-requires : goal.last_arriving-requires
+last_arriving-requires c = stored-in_use c.cell.ensures.stored
 
-pub returns-then-row-a : goal.returns-then-row-a
-returns-then-row-a c =
-    let T = c.args.table.now in
-    let r = cell-rises T c.requires.valid_table c.args.u c.args.v c.requires.u_bound.0 c.requires.u_bound.1 in
-    with_late (cells_of T c.args.u c.args.v) c.args.a c.args.b r c.last_arriving-found.ensures c.in-At.is c.if-row-a.true
+pub returns-in_err-departure-clause-departure_value : goal.returns-in_err-departure-clause-departure_value
+returns-in_err-departure-clause-departure_value c =
+    let a = c.args in
+    rw c.from_residual.ensures (cell-read (departure_with a.a a.b) a.table.now a.u a.v _ c.cell.ensures.words (with_none a.a a.b c.cell.ensures.stored c.last_arriving.ensures c.in_err-departure.was))
 
-pub returns-else-row-a : goal.returns-else-row-a
-returns-else-row-a c =
-    let T = c.args.table.now in
-    let r = cell-rises T c.requires.valid_table c.args.u c.args.v c.requires.u_bound.0 c.requires.u_bound.1 in
-    with_here (cells_of T c.args.u c.args.v) c.args.a c.args.b r c.last_arriving-found.ensures c.in-At.is c.if-row-b.false c.if-row-a.false
+pub returns-then-a-departure-clause-departure_value : goal.returns-then-a-departure-clause-departure_value
+returns-then-a-departure-clause-departure_value c =
+    let a = c.args in
+    cell-read (departure_with a.a a.b) a.table.now a.u a.v _ c.cell.ensures.words
+    (with_here a.a a.b c.cell.ensures.stored c.last_arriving.ensures c.in_ok-departure.was c.if-arrival-b.true c.if-a-departure.true)
 
-pub returns-in-Nothing : goal.returns-in-Nothing
-returns-in-Nothing c =
-    let T = c.args.table.now in
-    let r = cell-rises T c.requires.valid_table c.args.u c.args.v c.requires.u_bound.0 c.requires.u_bound.1 in
-    with_none (cells_of T c.args.u c.args.v) c.args.a c.args.b r c.last_arriving-found.ensures c.in-Nothing.is
+pub returns-then-a-departure-clause-departure_bound : goal.returns-then-a-departure-clause-departure_bound
+returns-then-a-departure-clause-departure_bound c = row_departs c.args.a c.args.b c.cell.ensures.stored c.last_arriving.ensures c.in_ok-departure.was
+
+pub returns-else-arrival-b-clause-departure_value : goal.returns-else-arrival-b-clause-departure_value
+returns-else-arrival-b-clause-departure_value c =
+    let a = c.args in
+    cell-read (departure_with a.a a.b) a.table.now a.u a.v _ c.cell.ensures.words
+    (with_other a.a a.b c.cell.ensures.stored c.last_arriving.ensures c.in_ok-departure.was c.else-arrival-b.either)

@@ -1,30 +1,23 @@
--- `steps::lowest` meets its contract. The loop's invariant: no contact leads to an animal passed. The measure is how many animals are
--- left.
-use mathlib.Core.Path.{ap, ◌∙◌, subst}
-use Prim.Native.Nat.{ℕ, ◌<◌}
-use native.Mathlib.Omega.{arith}
+-- `steps::lowest` meets its contract. The loop's invariant: no contact leads to an animal passed.
+use mathlib.Core.Path.{ap, ◌∙◌}
 use Rattle.rules.specs.Chains.{leads, lowest}
-use Rattle.rules.proofs.Sound.{opens-length}
 use Rattle.chains.proofs.Leading.{none_yet, none-next, found_here, found_none}
 use Rattle.chains.proofs.steps.lowest.Goals as goal
 
--- ---- needs
-pub bounds-table-0 : goal.bounds-table-0
-bounds-table-0 c = omega (arith, opens-length c.args.table.now c.requires.valid_table.opens)
+pub loop-to-init : goal.loop-to-init
+loop-to-init c = none_yet _
 
-pub loop-z-init : goal.loop-z-init
-loop-z-init c = (omega arith, none_yet _)
+pub returns-in-Some-clause-lowest_value : goal.returns-in-Some-clause-lowest_value
+returns-in-Some-clause-lowest_value c =
+    let a = c.args in
+    found_here (leads a.table.now a.goal a.b a.from a.tick) c.loop-to.to _ c.loop-to-test.true c.loop-to.invariant c.lead_to.ensures.lead_value c.in-Some.is
+    ∙ ap (lowest (leads a.table.now a.goal a.b a.from a.tick)) c.animals-n.ensures
 
-pub lead_to-step-requires : goal.lead_to-step-requires
-lead_to-step-requires c = record { valid_table = c.requires.valid_table; x_bound = (c.requires.x_bound.0, subst (λ (m : ℕ). c.loop-z.z < m) c.animals_of-n.ensures c.loop-z-test.true, c.requires.x_bound.1, c.requires.x_bound.2) }
+pub loop-to-preserved : goal.loop-to-preserved
+loop-to-preserved c = none-next _ c.loop-to.to c.loop-to.invariant c.lead_to.ensures.lead_value c.in_default.is
 
-pub returns-then-step : goal.returns-then-step
-returns-then-step c = found_here (leads c.args.table.now c.args.goal c.args.b c.args.x c.args.d) c.loop-z.z _ _ c.loop-z-test.true c.loop-z.invariant.1 c.lead_to-step.ensures c.if-step.true
-    ∙ ap (lowest (leads c.args.table.now c.args.goal c.args.b c.args.x c.args.d)) c.animals_of-n.ensures
-
-pub loop-z-preserved : goal.loop-z-preserved
-loop-z-preserved c = (omega arith, none-next _ c.loop-z.z _ c.loop-z.invariant.1 c.lead_to-step.ensures c.if-step.false)
-
-pub returns : goal.returns
-returns c = found_none (leads c.args.table.now c.args.goal c.args.b c.args.x c.args.d) c.loop-z.z _ 0 c.loop-z-test.false c.loop-z.invariant.0 c.loop-z.invariant.1
-    ∙ ap (lowest (leads c.args.table.now c.args.goal c.args.b c.args.x c.args.d)) c.animals_of-n.ensures
+pub returns-clause-lowest_value : goal.returns-clause-lowest_value
+returns-clause-lowest_value c =
+    let a = c.args in
+    found_none (leads a.table.now a.goal a.b a.from a.tick) c.loop-to.to _ c.loop-to-test.false c.loop-to.auto.to-end c.loop-to.invariant
+    ∙ ap (lowest (leads a.table.now a.goal a.b a.from a.tick)) c.animals-n.ensures

@@ -1,34 +1,42 @@
--- `places::find` meets its contract: the first row that departs at or after d says whether a row lies inside [d, a], and where the step back may start.
-use Prim.Native.Nat.{ℕ}
-use mathlib.Core.Path.{◌≡◌, sym, ◌∙◌}
+-- `places::find` meets its contract: the first row that departs at or after the interval says whether a row lies inside it, and where the step back may start.
+use mathlib.Core.Path.{sym, ◌∙◌}
 use native.Mathlib.Omega.{arith}
 use Rattle.rules.specs.Layout.{cell_of}
 use Rattle.cells.specs.Stored.{arrival_end}
 use Rattle.cells.proofs.Search.{front_length}
 use Rattle.cells.proofs.Lent.{in-use_length}
-use Rattle.entering.proofs.Slots.{Searched, none_inside, none-past, row_inside, row-outside, row-arrives, row_same, row_other, row_within}
+use Rattle.entering.proofs.Slots.{slot-behind, row_within, row_inside, row-arrives, slot-same, slot-other}
 use Rattle.entering.proofs.places.find.Goals as goal
 
-pub bounds-cell-0 : goal.bounds-cell-0
-bounds-cell-0 c = omega (arith, c.requires.within)
+pub first_arriving-lo-requires-clause-cell_bound : goal.first_arriving-lo-requires-clause-cell_bound
+first_arriving-lo-requires-clause-cell_bound c =
+    omega (arith, c.rows_of-hi.ensures, in-use_length c.args.cell.now c.requires, front_length arrival_end c.args.interval.arrival (cell_of c.args.cell.now))
 
-pub first_arriving-requires : goal.first_arriving-requires
-first_arriving-requires c = record { rows_in_use = c.requires; cell_bound = omega (arith, (c.rows_of-n.ensures ∙ sym (in-use_length c.args.cell.now c.requires)), front_length arrival_end c.args.a (cell_of c.args.cell.now)) }
+pub returns-in_default : goal.returns-in_default
+returns-in_default c =
+    slot-behind c.args.interval _ c.requires.rising c.first_departing.ensures c.in_default.is c.first_arriving-lo.ensures
+    (c.rows_of-hi.ensures ∙ sym (in-use_length c.args.cell.now c.requires))
 
-pub returns-then-row-a : goal.returns-then-row-a
-returns-then-row-a c = record { met_value = row_inside c.args.a ((let it : Searched c.args.d (cell_of c.args.cell.now) c.first_departing-found.result = record { rising = c.requires.rising; found = c.first_departing-found.ensures } in it)) c.in-At.is c.if-row-a.true; lo_value = λ e. let z : ◌≡◌ {A = ℕ} 0 1 = cc in absurd (omega arith) }
+pub returns-then-row-interval : goal.returns-then-row-interval
+returns-then-row-interval c = row_inside c.args.interval _ c.requires.rising c.first_departing.ensures c.in-Some.is c.if-row-interval.true
 
-pub first_arriving-lo-requires : goal.first_arriving-lo-requires
-first_arriving-lo-requires c = record { rows_in_use = c.requires; cell_bound = row-arrives c.args.a ((let it : Searched c.args.d (cell_of c.args.cell.now) c.first_departing-found.result = record { rising = c.requires.rising; found = c.first_departing-found.ensures } in it)) c.in-At.is (omega arith) }
+pub first_arriving-lo-requires-2-clause-cell_bound : goal.first_arriving-lo-requires-2-clause-cell_bound
+first_arriving-lo-requires-2-clause-cell_bound c =
+    row-arrives c.args.interval _ c.requires.rising c.first_departing.ensures c.in-Some.is (omega arith)
 
-pub overflow_add-result : goal.overflow_add-result
-overflow_add-result c = omega (arith, row_within c.args.a ((let it : Searched c.args.d (cell_of c.args.cell.now) c.first_departing-found.result = record { rising = c.requires.rising; found = c.first_departing-found.ensures } in it)) c.in-At.is, in-use_length c.args.cell.now c.requires, c.requires.within)
+pub overflow_add-hi : goal.overflow_add-hi
+overflow_add-hi c =
+    omega (
+      arith,
+      row_within c.args.interval _ c.requires.rising c.first_departing.ensures c.in-Some.is,
+      in-use_length c.args.cell.now c.requires,
+      c.requires.within,
+    )
 
-pub returns-then-row-d : goal.returns-then-row-d
-returns-then-row-d c = record { met_value = (row-outside c.args.a ((let it : Searched c.args.d (cell_of c.args.cell.now) c.first_departing-found.result = record { rising = c.requires.rising; found = c.first_departing-found.ensures } in it)) c.in-At.is (omega (arith, c.if-row-a.false))); lo_value = λ z. (c.first_arriving-lo.ensures, row_same c.args.a ((let it : Searched c.args.d (cell_of c.args.cell.now) c.first_departing-found.result = record { rising = c.requires.rising; found = c.first_departing-found.ensures } in it)) c.in-At.is c.if-row-d.true) }
+pub returns-then-same : goal.returns-then-same
+returns-then-same c =
+    slot-same c.args.interval _ c.requires.rising c.first_departing.ensures c.in-Some.is (omega arith) c.first_arriving-lo-2.ensures (omega arith)
 
-pub returns-in-Nothing : goal.returns-in-Nothing
-returns-in-Nothing c = let q = c.in-Nothing.is in record { met_value = sym (none_inside c.args.a ((let it : Searched c.args.d (cell_of c.args.cell.now) c.first_departing-found.result = record { rising = c.requires.rising; found = c.first_departing-found.ensures } in it)) q); lo_value = λ z. (c.first_arriving.ensures, (c.rows_of-n.ensures ∙ sym (in-use_length c.args.cell.now c.requires)) ∙ none-past c.args.a ((let it : Searched c.args.d (cell_of c.args.cell.now) c.first_departing-found.result = record { rising = c.requires.rising; found = c.first_departing-found.ensures } in it)) q) }
-
-pub returns-else-row-d : goal.returns-else-row-d
-returns-else-row-d c = record { met_value = (row-outside c.args.a ((let it : Searched c.args.d (cell_of c.args.cell.now) c.first_departing-found.result = record { rising = c.requires.rising; found = c.first_departing-found.ensures } in it)) c.in-At.is (omega (arith, c.if-row-a.false))); lo_value = λ z. (c.first_arriving-lo.ensures, row_other c.args.a ((let it : Searched c.args.d (cell_of c.args.cell.now) c.first_departing-found.result = record { rising = c.requires.rising; found = c.first_departing-found.ensures } in it)) c.in-At.is c.if-row-d.false) }
+pub returns-else-same : goal.returns-else-same
+returns-else-same c =
+    slot-other c.args.interval _ c.requires.rising c.first_departing.ensures c.in-Some.is (omega arith) c.first_arriving-lo-2.ensures c.if-same.false

@@ -4,17 +4,14 @@ use Rattle.cells.proofs.Lent.{in-use_length}
 use Rattle.entering.proofs.Slots.{step-stops, step-goes}
 use Rattle.entering.proofs.places.first_arriving.Goals as goal
 
-pub loop-lo-init : goal.loop-lo-init
-loop-lo-init c = c.requires.cell_bound
-
 pub offset_bounds-cell-lo : goal.offset_bounds-cell-lo
 offset_bounds-cell-lo c = omega (arith, c.requires.rows_in_use.within, in-use_length c.args.cell.now c.requires.rows_in_use, c.loop-lo.invariant)
 
 pub bounds-cell-lo : goal.bounds-cell-lo
 bounds-cell-lo c = omega (arith, c.requires.rows_in_use.within, in-use_length c.args.cell.now c.requires.rows_in_use, c.loop-lo.invariant)
 
-pub returns-then-arrival_of-a : goal.returns-then-arrival_of-a
-returns-then-arrival_of-a c = omega (arith, c.loop-lo.invariant, step-stops c.args.cell.now c.requires.rows_in_use c.args.a c.loop-lo.lo (omega arith) c.loop-lo.invariant.1 (omega arith))
-
 pub loop-lo-preserved : goal.loop-lo-preserved
 loop-lo-preserved c = omega (arith, c.loop-lo.invariant, step-goes c.args.cell.now c.requires.rows_in_use c.args.a c.loop-lo.lo (omega arith) c.loop-lo.invariant.1 (omega arith))
+
+pub returns-else-arrival_of-a : goal.returns-else-arrival_of-a
+returns-else-arrival_of-a c = omega (arith, c.loop-lo.invariant, step-stops c.args.cell.now c.requires.rows_in_use c.args.a c.loop-lo.lo (omega arith) c.loop-lo.invariant.1 (omega arith))

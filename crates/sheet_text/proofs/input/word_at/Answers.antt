@@ -1,6 +1,7 @@
 -- `input::word_at` meets its contract: the four bytes were taken from `at` on.
+use native.Mathlib.Omega.{arith}
 use Rattle.sheet_text.proofs.Words.{word-is}
 use Rattle.sheet_text.proofs.input.word_at.Goals as goal
 
 pub returns : goal.returns
-returns c = word-is c.args.bytes.now c.args.at _ _ _ _ c.requires c.wide-a.ensures.0 c.wide-b.ensures.0 c.wide-c.ensures.0 c.wide-d.ensures.0
+returns c = omega (arith, c.from_be_bytes.ensures, word-is c.args.bytes.now c.args.at c.requires)

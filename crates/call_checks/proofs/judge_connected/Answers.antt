@@ -1,9 +1,0 @@
--- `judge_connected` meets its contract: its groups, one after the other.
-use Rattle.rules.specs.Questions.{connected_refusal}
-use Rattle.rules.proofs.Groups.{table-group}
-use Rattle.checks.proofs.Judged.{chained}
-use Rattle.call_checks.proofs.judge_connected.Goals as goal
-
-pub returns : goal.returns
-unfolding connected_refusal
-returns c = chained (table-group _) _ c.judge_table-whole.ensures c.judge_window-window.ensures c.and_then.ensures

@@ -1,9 +1,0 @@
--- `words::is_end` meets its contract: the fields fill the bits below bit 26, so what stands above them decides.
-use mathlib.Core.Path.{refl}
-use lib.Dec.{eqb→eq}
-use Rattle.words.specs.Words.{end_layout}
-use Rattle.words.proofs.Fields.{is_of-test}
-use Rattle.words.proofs.is_end.Goals as goal
-
-pub returns : goal.returns
-returns c = is_of-test end_layout 26 _ _ _ (refl, refl) (eqb→eq _ _ tt) (eqb→eq _ _ tt)
