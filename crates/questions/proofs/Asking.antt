@@ -7,8 +7,10 @@ use Rattle.rules.specs.Answers.{answer_of}
 use Rattle.rules.specs.Adding.{ensure_pair}
 use Rattle.rules.specs.Checks.{ValidTable}
 use Rattle.rules.specs.Windows.{ensure_window}
-use Rattle.rules.specs.Questions.{reach_refusal}
+use Rattle.rules.specs.declared.AnimalSet.{AnimalSet}
+use Rattle.rules.specs.Questions.{reach_refusal, reached_refusal, reached_answer, reached_words, reached_count, reached_set, is_found, words_found, count_found}
 use Rattle.rules.proofs.Groups.{behind-valid}
+use Rattle.rules.proofs.ReachedRule.{answer-found, answer-words, answer-count}
 use Rattle.checks.specs.Verdicts.{verdict_of}
 use Rattle.checks.proofs.Judged.{refused_with}
 
@@ -46,3 +48,15 @@ unfolding reach_refusal
 reach-verdict T u v first last p e q =
     rw (behind-valid T p (ensure_pair T u v (ensure_window T first last None)))
     (q ∙ ap (λ (W : List ℕ). verdict_of (ensure_pair W u v (ensure_window W first last None))) e)
+
+-- The question for the animals reached, refused by its checks.
+pub reached_exit : (T : List ℕ) (u first last : ℕ) {a : Result (List ℕ) Refusal} {v : Result AnimalSet Refusal} {r : Refusal}
+    → a ≡ answer_of (reached_refusal T u first last) (Ok T) → a ≡ Err r → IsErrAnd v (λ e. e ≡ r) → v ≡ reached_set T u first last
+unfolding reached_set
+reached_exit T u first last p q h = judged_exit _ T _ p q h
+
+-- What its answer says, whatever it is.
+pub reached-said : (T : List ℕ) (u first last : ℕ) {v : Result AnimalSet Refusal} → v ≡ reached_set T u first last
+    → (is_found v ≡ reached_answer T u first last) × (words_found v ≡ reached_words T u first last) × (count_found v ≡ reached_count T u first last)
+reached-said T u first last e =
+    (ap is_found e ∙ answer-found T u first last, ap words_found e ∙ answer-words T u first last, ap count_found e ∙ answer-count T u first last)

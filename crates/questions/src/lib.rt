@@ -3,7 +3,7 @@
 #![tactic(auto)]
 
 ghost use Rattle.std.specs.Prelude.{◌≡◌};
-ghost use Rattle.rules.specs.Questions.{reach_answer, earliest_answer, latest_answer, connected_answer, reached_set};
+ghost use Rattle.rules.specs.Questions.{reach_answer, earliest_answer, latest_answer, connected_answer, reached_answer, reached_words, reached_count, reached_set, is_found, words_found, count_found};
 
 use animal_loops::{sets, walks};
 use journeys::Interval;
@@ -52,9 +52,11 @@ pub fn connected(table: &[u32], first: u32, last: u32) -> Result<bool, Refusal>
 }
 
 // The animals reached from u in the window. Refuses with 5, 6, 7, 9, 19.
-#[tactic(auto, using(checks::proofs::Judged::refused_with), unfolding(rules::specs::Questions::reached_set))]
 pub fn reached(table: &[u32], u: u32, first: u32, last: u32) -> Result<AnimalSet, Refusal>
-    ensures { result ≡ reached_set table.now u first last }
+    ensures set { result ≡ reached_set table.now u first last }
+    ensures found { is_found result ≡ reached_answer table.now u first last }
+    ensures words { words_found result ≡ reached_words table.now u first last }
+    ensures count { count_found result ≡ reached_count table.now u first last }
 {
     let table = call_checks::judge_reached(table, u, first, last)?;
     Ok(sets::collect(&table, u, first, last))

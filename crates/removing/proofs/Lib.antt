@@ -1,3 +1,4 @@
 pub mod MarkedSets
 pub mod CellByCell
 pub mod Removed
+pub mod Copied

@@ -11,7 +11,7 @@ use Rattle.journeys.specs.Journey.{In, Same}
 use Rattle.rules.specs.Limits.{max_ticks}
 use Rattle.rules.specs.Layout.{table_words, animals, ticks, carry}
 use Rattle.rules.specs.Checks.{ValidTable}
-use Rattle.rules.specs.Opening.{Sizes, no_intervals}
+use Rattle.rules.specs.Opening.{no_intervals}
 use Rattle.rules.specs.Fresh.{Fresh}
 use Rattle.rules.specs.Removing.{remaining, table_without}
 use Rattle.rules.proofs.Decode.{table-animals, table-ticks, table-carry}

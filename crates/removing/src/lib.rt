@@ -112,6 +112,17 @@ fn build_without(table: &Table, work: &mut [u32], contact: Contact)
     building::build(work, &heads);
 }
 
+// Copies the words of one table to another of its length.
+// Word by word and not by `copy_from_slice`, for which the archive for C would ask for `memmove`.
+fn copy(from: &[u32], to: &mut [u32])
+    requires { length to.old ≡ length from.now }
+    ensures { to.new ≡ from.now }
+{
+    for i in 0..to.len() {
+        to[i] = from[i];
+    }
+}
+
 // Leaves both tables as the one over the contacts that the first holds, less (u, v, t).
 pub fn remove_held(table: &mut [u32], work: &mut [u32], contact: Contact)
     requires valid_table { ValidTable table.old }
@@ -120,5 +131,5 @@ pub fn remove_held(table: &mut [u32], work: &mut [u32], contact: Contact)
     ensures work_after { work.new ≡ table_without table.old contact }
 {
     build_without(&Table::of_valid(table), work, contact);
-    table.copy_from_slice(work);
+    copy(work, table);
 }

@@ -17,6 +17,7 @@ pub mod Windows
 pub mod Asked
 pub mod Answered
 pub mod EarliestLatest
+pub mod ReachedRule
 pub mod Sorted
 pub mod LogOrder
 pub mod Held

@@ -14,6 +14,7 @@ use Rattle.rules.proofs.Windows.{window_rule}
 use Rattle.rules.proofs.TickRefusals.{tick_refusals}
 use Rattle.rules.proofs.ListRule.{list_rule, list_examples}
 use Rattle.rules.proofs.EarliestLatest.{stored_answers}
+use Rattle.rules.proofs.ReachedRule.{reached_rule}
 use Rattle.rules.proofs.Claims.{claims_judged}
 use Rattle.rules.proofs.ChainShown.{named_chains}
 use Rattle.rules.proofs.SheetRule.{sheet_rule}
@@ -45,6 +46,7 @@ promised =
       tick_refusals = tick_refusals;
       list_rule = list_rule;
       stored_answers = stored_answers;
+      reached_rule = reached_rule;
       claims_judged = claims_judged;
       named_chains = named_chains;
       sheet_rule = sheet_rule;

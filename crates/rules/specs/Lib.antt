@@ -24,6 +24,7 @@ pub mod WindowRule
 pub mod Questions
 pub mod EarliestLatest
 pub mod StoredAnswers
+pub mod ReachedRule
 pub mod QuestionList
 pub mod Chains
 pub mod Claims

@@ -15,6 +15,7 @@ use Rattle.rules.specs.ListRule.{ListRule, ListExamples}
 use Rattle.rules.specs.WindowRule.{WindowRule}
 use Rattle.rules.specs.TickRefusals.{TickRefusals}
 use Rattle.rules.specs.StoredAnswers.{StoredAnswers}
+use Rattle.rules.specs.ReachedRule.{ReachedRule}
 use Rattle.rules.specs.Claims.{ClaimsJudged}
 use Rattle.rules.specs.NamedChains.{NamedChains}
 use Rattle.rules.specs.Sheet.{sheet_text}
@@ -36,7 +37,7 @@ pub record Promised : Type 1 where
   pub demand3 : Demand3 engine
   -- What documents 01 and 02 say beside them: reading a log, counted calls, contacts added in any order to any table, removing a contact, joining two
   -- tables, stays, tables built by lists of calls, windows, the refusals of ticks, lists of questions, reach, the earliest arrival and the latest departure on
-  -- tables that no adds built, claimed chains, the chain named, the sheet.
+  -- tables that no adds built, the answer with the animals reached, claimed chains, the chain named, the sheet.
   pub logs_read : LogsRead
   pub counted_rule : CountedRule
   pub any_order : AnyOrder
@@ -48,6 +49,7 @@ pub record Promised : Type 1 where
   pub tick_refusals : TickRefusals
   pub list_rule : ListRule
   pub stored_answers : StoredAnswers
+  pub reached_rule : ReachedRule
   pub claims_judged : ClaimsJudged
   pub named_chains : NamedChains
   pub sheet_rule : SheetRule

@@ -1,5 +1,5 @@
 -- Questions about windows and ticks (document 01, "Questions"). Stored intervals stand for the journeys.
-use Rattle.std.specs.Prelude.{ℕ, ◌+◌, ◌*◌, ◌^◌, Bool, cond, not, ◌&&◌, ◌||◌, List, [], ◌∷◌, ◌++◌, length, take, drop, replicate, ltb, eqb, Option, None, Ok, Result, ⊤}
+use Rattle.std.specs.Prelude.{ℕ, ◌+◌, ◌*◌, ◌^◌, Bool, cond, not, ◌&&◌, ◌||◌, List, [], ◌∷◌, ◌++◌, length, take, drop, replicate, ltb, eqb, Option, None, Ok, Err, Result, ⊤}
 use Rattle.journeys.specs.Cell.{has_inside, latest_departing, earliest_arriving}
 use Rattle.rules.specs.declared.Refusal.{Refusal}
 use Rattle.rules.specs.declared.Refusal.TheVariants.{NoSuchAnimal}
@@ -97,6 +97,19 @@ reached_count T u first last = unless (reached_refusal T u first last) (count_be
 unfoldable pub reached_set : List ℕ → ℕ → ℕ → ℕ → Result AnimalSet Refusal
 reached_set T u first last =
     answer_of (reached_refusal T u first last) (Ok (record { words = reached_words T u first last; count = reached_count T u first last }))
+
+-- What an answer with a set says: whether one is found, its words and its number of animals. A refusal gives the set of no animal.
+abbrev pub is_found : Result AnimalSet Refusal → Result ⊤ Refusal
+is_found (Ok s) = done
+is_found (Err r) = Err r
+
+abbrev pub words_found : Result AnimalSet Refusal → List ℕ
+words_found (Ok s) = s.words
+words_found (Err r) = replicate 8 0
+
+abbrev pub count_found : Result AnimalSet Refusal → ℕ
+count_found (Ok s) = s.count
+count_found (Err r) = 0
 
 -- A set's eight words at the front of others, as many as there is room for; the words behind keep theirs.
 abbrev pub set_over : List ℕ → List ℕ → List ℕ

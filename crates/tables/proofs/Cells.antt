@@ -3,33 +3,32 @@
 use mathlib.Core.Path.{◌≡◌, refl, sym, ap, ap₂, ◌∙◌}
 use mathlib.Core.Bool.{Bool, true, false, cond}
 use mathlib.Core.List.{List, [], ◌∷◌, ◌++◌, append-nil}
-use Prim.Native.Nat.{ℕ, zero, suc, ◌+◌, ◌-◌, ◌*◌, ◌/◌, ◌%◌, ◌≤◌, ◌<◌}
+use Prim.Native.Nat.{ℕ, zero, suc, ◌+◌, ◌-◌, ◌*◌, ◌≤◌, ◌<◌}
+use native.Mathlib.Nat.{mul_assoc}
 use native.Mathlib.Omega.{arith}
-use lib.Arith.{digits_div, digits_mod}
 use lib.Dec.{eqb}
 use lib.ListN.{length, take, drop, set, replicate, length-replicate}
 use lib.Seq.{take-length, drop-drop, drop-length}
 use Rattle.words.specs.Words.{opening_word, count_word, unused_word}
 use Rattle.rules.specs.Layout.{table_length, cell_words, table_words, animals, ticks, carry, cell_at}
 use Rattle.rules.specs.Checks.{is_open, cell_well_formed, well_formed}
-use Rattle.rules.specs.Folds.{all_below}
 use Rattle.rules.specs.Opening.{no_intervals}
 use Rattle.rules.proofs.Folds.{flat-same}
 use Rattle.rules.proofs.Sound.{opens-length}
 use Rattle.grid.specs.Parts.{part, parts}
-use Rattle.grid.proofs.Places.{part-inside, part_length, rest-lent, rest-length}
+use Rattle.grid.proofs.Places.{part-inside, part_length, part-of_part, rest-lent, rest-length}
 use Rattle.grid.proofs.Reading.{all_same}
-use Rattle.grid.proofs.Numbered.{flat-square, all-square}
+use Rattle.grid.proofs.Numbered.{flat-square}
 use Rattle.grid.proofs.Flat.{parts-flat}
-use Rattle.tables.specs.Cells.{most_rows, cell_of_well_formed, all_cells_well_formed, emptied}
+use Rattle.tables.specs.Cells.{most_rows, cell_of_well_formed, cells_from_well_formed, all_cells_well_formed, emptied}
 
 -- ---- every cell
 
 -- A cell, tested as it is lent.
-pub cell-tested : {r : Bool} (τ δ n k : ℕ) (body lent : List ℕ) → lent ≡ part (τ + 1) k body → r ≡ cell_well_formed τ δ (most_rows τ (k / n) (k % n)) lent
-    → r ≡ cell_of_well_formed τ δ n body k
+pub cell-tested : {r : Bool} (τ δ u v m : ℕ) (cells lent : List ℕ) → m ≡ most_rows τ u v → lent ≡ part (τ + 1) v cells → r ≡ cell_well_formed τ δ m lent
+    → r ≡ cell_of_well_formed τ δ u cells v
 unfolding cell_of_well_formed
-cell-tested τ δ n k body lent f g = g ∙ ap (cell_well_formed τ δ (most_rows τ (k / n) (k % n))) f
+cell-tested τ δ u v m cells lent e f g = g ∙ ap₂ (cell_well_formed τ δ) e f
 
 -- At most τ rows may be in use.
 pub most-bound : (τ u v : ℕ) → most_rows τ u v ≤ τ
@@ -40,30 +39,26 @@ most-bound τ u v = go (eqb u v)
     go true = omega arith
     go false = omega arith
 
--- The n × n cells are well formed exactly when each cell (u, v) is.
-pub cells-by_pairs : (τ δ n : ℕ) (body : List ℕ)
-    → all_cells_well_formed τ δ n body
-    ≡ all_below (λ u. all_below (λ v. cell_well_formed τ δ (most_rows τ u v) (part (τ + 1) (u * n + v) body)) n) n
-unfolding all_cells_well_formed cell_of_well_formed
-cells-by_pairs τ δ n body =
-    all-square _ n n
-    ∙ all_same _ _ n (λ u h. all_same _ _ n
-    (λ v k. ap (λ (m : ℕ). cell_well_formed τ δ m (part (τ + 1) (u * n + v) body)) (ap₂ (most_rows τ) (digits_div u k) (digits_mod u k))))
-
 -- The test of every cell after the opening word is the check of the table.
 pub body-formed : (T : List ℕ) → all_cells_well_formed (ticks T) (carry T) (animals T) (drop 1 T) ≡ well_formed T
-unfolding most_rows well_formed cell_at
-body-formed T =
-    cells-by_pairs (ticks T) (carry T) (animals T) (drop 1 T)
-    ∙ all_same _ _ (animals T) (λ u h. all_same _ _ (animals T)
-    (λ v k. ap (λ (l : List ℕ). cell_well_formed (ticks T) (carry T) (cond (eqb u v) 0 (ticks T)) (take (ticks T + 1) l)) (drop-drop ((u * animals T + v) * (ticks T + 1)) 1 T)))
+unfolding all_cells_well_formed cells_from_well_formed cell_of_well_formed most_rows well_formed cell_at
+body-formed T = all_same _ _ n (λ u h. all_same _ _ n (λ v k. ap (cell_well_formed (ticks T) (carry T) (cond (eqb u v) 0 (ticks T))) (cell u v k)))
+  where
+    n : ℕ
+    n = animals T
+
+    s : ℕ
+    s = ticks T + 1
+
+    cell : (u v : ℕ) → v < n → part s v (part (n * s) u (drop 1 T)) ≡ take s (drop (1 + (u * n + v) * s) T)
+    cell u v k = part-of_part s n u v (drop 1 T) k ∙ ap (take s) (drop-drop ((u * n + v) * s) 1 T)
 
 -- With the three numbers that the first word says.
 module _ (T : List ℕ) (n τ δ : ℕ) (a : n ≡ animals T) (b : τ ≡ ticks T) (c : δ ≡ carry T) where
   -- The cells are all words after the opening word.
-  pub cells-fill : is_open T ≡ true → length (take (length T - 1) (drop 1 T)) ≡ n * n * (τ + 1)
+  pub cells-fill : is_open T ≡ true → length (take (length T - 1) (drop 1 T)) ≡ n * (n * (τ + 1))
   cells-fill h =
-      rw (rest-length T, a, b) (omega (arith, opens-length T h))
+      rw (rest-length T, a, b) (omega (arith, opens-length T h, mul_assoc (animals T) (animals T) (ticks T + 1)))
 
   -- The test of the lent cells is the check of the table.
   pub cells-formed : all_cells_well_formed τ δ n (take (length T - 1) (drop 1 T)) ≡ well_formed T

@@ -13,7 +13,7 @@ use Rattle.words.specs.Layout.{is_of}
 use Rattle.words.specs.Words.{opening_layout, animals_of, ticks_of}
 use Rattle.rules.specs.declared.Refusal.TheVariants.{AnimalsBeyondLimit, TicksBeyondLimit, CarryBeyondLimit}
 use Rattle.rules.specs.Folds.{within}
-use Rattle.rules.specs.Layout.{table_length, animals, ticks}
+use Rattle.rules.specs.Layout.{table_length}
 use Rattle.rules.specs.Checks.{is_open}
 use Rattle.rules.specs.Limits.{max_animals, max_ticks, max_carry, max_cell_words, max_cells}
 use Rattle.rules.proofs.Sound.{opens-length}

@@ -1,16 +1,16 @@
 // The opening of a table with its limits, the checks of an open table, its cells, and the words of a table just opened.
 #![tactic(auto)]
 
-ghost use Rattle.std.specs.Prelude.{◌≡◌, true, [], ◌+◌, ◌-◌, ◌*◌, ◌/◌, ◌%◌, ◌≤◌, ◌<◌, length};
+ghost use Rattle.std.specs.Prelude.{◌≡◌, true, [], ◌+◌, ◌-◌, ◌*◌, ◌≤◌, ◌<◌, length};
 ghost use Rattle.words.specs.Words.{animals_of, ticks_of, carry_of};
 ghost use Rattle.rules.specs.Limits.{max_animals, max_ticks, max_carry};
 ghost use Rattle.rules.specs.Folds.{within};
 ghost use Rattle.rules.specs.Layout.{table_length, cell_words, table_words, animals, ticks, cell_at};
-ghost use Rattle.rules.specs.Checks.{is_open, well_formed, cell_well_formed, ValidTable};
+ghost use Rattle.rules.specs.Checks.{is_open, well_formed, ValidTable};
 ghost use Rattle.rules.specs.Opening.{Sizes, no_intervals};
 ghost use Rattle.grid.specs.Parts.{parts};
 ghost use Rattle.tables.specs.Openings.{made};
-ghost use Rattle.tables.specs.Cells.{most_rows, all_cells_well_formed, emptied};
+ghost use Rattle.tables.specs.Cells.{most_rows, cells_from_well_formed, all_cells_well_formed, emptied};
 
 mod checked;
 
@@ -102,21 +102,32 @@ fn most_rows(u: usize, v: usize, ticks: u32) -> u32
     if u == v { 0 } else { ticks }
 }
 
-// Whether cell k of n × n cells is well formed, as that of the animals that its number says.
-fn cell_of_well_formed(cell: &[u32], k: usize, n: usize, ticks: u32, carry: u32) -> bool
-    requires { (1 ≤ n) × (ticks ≤ max_ticks) × (carry ≤ max_carry) × (length cell.now ≡ ticks + 1) }
-    ensures { result ≡ cell_well_formed ticks carry (most_rows ticks (k / n) (k % n)) cell.now }
+// Whether the n cells from animal u are well formed.
+fn cells_from_well_formed(body: &[u32], u: usize, n: usize, ticks: u32, carry: u32) -> bool
+    requires few { (u < n) × (n ≤ max_animals) × (ticks ≤ max_ticks) × (carry ≤ max_carry) }
+    requires body_len { length body.now ≡ n * (n * (ticks + 1)) }
+    ensures { result ≡ cells_from_well_formed ticks carry n body.now u }
 {
-    cell_checks::is_well_formed(cell, ticks, carry, most_rows(k / n, k % n, ticks))
+    let size = ticks as usize + 1;
+    let width = n * size;
+    let at = u * width;
+    for (v, cell) in body[at..at + width].chunks_exact(size).enumerate() {
+        if !cell_checks::is_well_formed(cell, ticks, carry, most_rows(u, v, ticks)) {
+            return false;
+        }
+    }
+    true
 }
 
 // Whether the n × n cells are well formed.
+// From animal to animal: the two animals of a cell are known without a division for each cell.
 fn all_cells_well_formed(body: &[u32], n: usize, ticks: u32, carry: u32) -> bool
-    requires { (1 ≤ n) × (ticks ≤ max_ticks) × (carry ≤ max_carry) × (length body.now ≡ n * n * (ticks + 1)) }
+    requires few { (n ≤ max_animals) × (ticks ≤ max_ticks) × (carry ≤ max_carry) }
+    requires body_len { length body.now ≡ n * (n * (ticks + 1)) }
     ensures { result ≡ all_cells_well_formed ticks carry n body.now }
 {
-    for (k, cell) in body.chunks_exact(ticks as usize + 1).enumerate() {
-        if !cell_of_well_formed(cell, k, n, ticks, carry) {
+    for u in 0..n {
+        if !cells_from_well_formed(body, u, n, ticks, carry) {
             return false;
         }
     }

@@ -7,5 +7,5 @@ use Rattle.herd_ffi.proofs.herd_reached.Goals as goal
 pub returns-clause-set_after : goal.returns-clause-set_after
 returns-clause-set_after c =
     c.put_set.ensures
-    ∙ ap (λ o. set_leaves o c.args.set.now) c.reached-found.ensures
+    ∙ ap (λ o. set_leaves o c.args.set.now) c.reached-found.ensures.set
     ∙ reached-left c.args.table.now c.args.u c.args.first c.args.last c.args.set.now

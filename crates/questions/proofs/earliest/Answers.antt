@@ -1,9 +1,7 @@
 -- `earliest` meets its contract: each return is a case of the rule.
 use Rattle.questions.proofs.Asking.{judged_exit}
-use Rattle.std.proofs.Common.{rules, ◌≡◌}
-use Rattle.rules.specs.Layout.{cells_of}
+use Rattle.std.proofs.Common.{rules}
 use Rattle.rules.specs.Questions.{earliest_answer}
-use Rattle.cells.specs.Rows.{first_departing, interval_found}
 use Rattle.questions.proofs.Intervals.{asked-pair, earliest-answered}
 use Rattle.questions.proofs.earliest.Goals as goal
 

@@ -1,9 +1,7 @@
 -- `latest` meets its contract: each return is a case of the rule.
 use Rattle.questions.proofs.Asking.{judged_exit}
-use Rattle.std.proofs.Common.{rules, ◌≡◌}
-use Rattle.rules.specs.Layout.{cells_of}
+use Rattle.std.proofs.Common.{rules}
 use Rattle.rules.specs.Questions.{latest_answer}
-use Rattle.cells.specs.Rows.{last_arriving, interval_found}
 use Rattle.questions.proofs.Intervals.{asked-pair, latest-answered}
 use Rattle.questions.proofs.latest.Goals as goal
 

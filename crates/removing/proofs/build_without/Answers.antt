@@ -1,5 +1,5 @@
 -- `build_without` meets its contract: the second table is opened, the contacts that remain are marked in it, and it is built over them.
-use mathlib.Core.Path.{◌≡◌, ◌∙◌}
+use mathlib.Core.Path.{◌≡◌}
 use mathlib.Core.List.{List}
 use Prim.Native.Nat.{ℕ}
 use native.Mathlib.Omega.{arith}

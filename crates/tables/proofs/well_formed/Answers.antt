@@ -20,7 +20,7 @@ pub all_cells_well_formed-requires : goal.all_cells_well_formed-requires
 all_cells_well_formed-requires c = let e = c.of_word-o.ensures in
     let w = get_or c.args.table.now 0 0 in
     let r = cells-fill c.args.table.now _ _ _ e.0 e.1 e.2 c.requires in
-    (omega (arith, animals_of-bound w), omega (arith, ticks_of-bound w), omega (arith, carry_of-bound w), r)
+    record { few = omega (arith, animals_of-bound w, ticks_of-bound w, carry_of-bound w); body_len = r }
 
 pub returns : goal.returns
 returns c = let e = c.of_word-o.ensures in

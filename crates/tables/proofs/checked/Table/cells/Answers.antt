@@ -1,6 +1,6 @@
 -- `cells` lends the words behind the opening word, which a valid table has.
 use native.Mathlib.Omega.{arith}
-use Rattle.std.proofs.Common.{◌≡◌, ◌+◌, ap, sym}
+use Rattle.std.proofs.Common.{◌+◌, ap, sym}
 use Rattle.rules.specs.Layout.{animals, ticks}
 use Rattle.rules.proofs.Sound.{opens-length}
 use Rattle.tables.proofs.Stored.{lent-cells}
