@@ -1,6 +1,6 @@
 // The calls of the engine. Each checks in the documents' order and refuses with nothing written, and its reply and every
 // lent word afterwards are those of its rule, for every input.
-#![tactic(auto)]
+#![tactic(auto, using(checks::proofs::Judged::refused_with), unfolding(checks::specs::Verdicts::verdict_of, logs::specs::Written::written, rules::specs::Opening::open_answer, rules::specs::Opening::open_leaves, rules::specs::Adding::add_answer, rules::specs::Adding::add_leaves, rules::specs::Logs::write_refusal, rules::specs::Logs::write_answer, rules::specs::Logs::write_leaves, rules::specs::Reading::read_answer, rules::specs::Reading::read_leaves, rules::specs::Removing::remove_answer, rules::specs::Removing::remove_leaves, rules::specs::Removing::remove_work, rules::specs::Joining::join_answer, rules::specs::Joining::join_leaves, rules::specs::Stays::stays_answer, rules::specs::Stays::stays_leaves))]
 
 ghost use Rattle.std.specs.Prelude.{◌≡◌};
 ghost use Rattle.journeys.specs.Journey.{contact};
