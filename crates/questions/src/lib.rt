@@ -52,6 +52,7 @@ pub fn connected(table: &[u32], first: u32, last: u32) -> Result<bool, Refusal>
 }
 
 // The animals reached from u in the window. Refuses with 5, 6, 7, 9, 19.
+#[tactic(auto, using(checks::proofs::Judged::refused_with), unfolding(rules::specs::Questions::reached_set, rules::specs::Questions::reached_answer, rules::specs::Questions::reached_words, rules::specs::Questions::reached_count))]
 pub fn reached(table: &[u32], u: u32, first: u32, last: u32) -> Result<AnimalSet, Refusal>
     ensures set { result ≡ reached_set table.now u first last }
     ensures found { is_found result ≡ reached_answer table.now u first last }

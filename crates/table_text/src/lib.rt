@@ -35,6 +35,7 @@ pub fn put_number(k: u32, out: &mut [u8]) -> usize
 }
 
 // Writes the bytes of the text.
+#[tactic(auto, unfolding(crate::specs::Lines::overwrite_front))]
 pub fn put_bytes(text: &[u8], out: &mut [u8]) -> usize
     requires { length text.now ≤ length out.old }
     ensures value { result ≡ length text.now }

@@ -1,6 +1,4 @@
 -- `join_cell` meets its contract. The loop's invariant: the contacts of the rows passed are added.
-use mathlib.Core.Path.{ap}
-use Prim.Native.Nat.{◌+◌}
 use native.Mathlib.Omega.{arith}
 use Rattle.cells.proofs.Lent.{count_fits}
 use Rattle.logs.proofs.Passes.{all_left, next-left, none_left}
@@ -11,7 +9,7 @@ pub slice_bounds-w-items-end : goal.slice_bounds-w-items-end
 slice_bounds-w-items-end c = omega (arith, c.rows_of.ensures, count_fits _ c.requires.carry_le_max_carry.1)
 
 pub loop-w-init : goal.loop-w-init
-loop-w-init c = added-start _ _ c.args.first.now (all_left _ _ _ c.args.cell.now (ap (λ n. n + 1) c.rows_of.ensures) c.requires.carry_le_max_carry.1)
+loop-w-init c = added-start _ _ c.args.first.now (all_left _ _ _ c.args.cell.now (omega (arith, c.rows_of.ensures)) c.requires.carry_le_max_carry.1)
 
 pub join_row-new-requires : goal.join_row-new-requires
 join_row-new-requires c =

@@ -43,7 +43,8 @@ pub returns-clause-value : goal.returns-clause-value
 returns-clause-value c =
     let w1 = wrote1 c.args.number c.args.out.now _ _ c.requires c.put_bytes-at.ensures.value c.put_bytes-at.ensures.out_after in
     let w2 = number w1 _ _ c.args.number 10 _ refl c.put_then.ensures.value c.put_then.ensures.out_after in
-    (end w2 refl).0
+    let whole = (end w2 refl).0 in
+    omega (arith, whole, c.put_bytes-at.ensures.value)
 
 pub returns-clause-out_after : goal.returns-clause-out_after
 returns-clause-out_after c =

@@ -18,20 +18,20 @@ pub lowest-requires : goal.lowest-requires
 lowest-requires c = let w = c.loop-k.invariant in (w.at-animal, c.requires.1, w.to_last)
 
 pub returns-in_err-to-clause-words_value : goal.returns-in_err-to-clause-words_value
-returns-in_err-to-clause-words_value c = rw c.from_residual.ensures (walk_stuck c.loop-k.invariant c.animals-n.ensures c.loop-k-test.true c.lowest.ensures.lowest_value c.in_err-to.was)
+returns-in_err-to-clause-words_value c = rw c.from_residual.ensures (walk_stuck c.loop-k.invariant c.animals-n.ensures (omega arith) c.lowest.ensures.lowest_value c.in_err-to.was)
 
 pub contact_word-requires : goal.contact_word-requires
 contact_word-requires c =
     let z = table-sizes c.args.table.now in
     let w = c.loop-k.invariant in
     -- The next animal is one of the table.
-    let next = walk_animal w c.animals-n.ensures c.loop-k-test.true c.lowest.ensures.lowest_value c.in_ok-to.was in
+    let next = walk_animal w c.animals-n.ensures (omega arith) c.lowest.ensures.lowest_value c.in_ok-to.was in
     (omega (arith, z.n_high, w.at-animal), omega (arith, z.n_high, next), w.from_one, w.to_last)
 
 pub returns-in_default-clause-words_value : goal.returns-in_default-clause-words_value
 unfolding collected
 returns-in_default-clause-words_value c =
-    walk_there c.loop-k.invariant c.animals-n.ensures c.loop-k-test.true c.lowest.ensures.lowest_value c.in_ok-to.was _ c.contact_word.ensures c.in_default.is
+    walk_there c.loop-k.invariant c.animals-n.ensures (omega arith) c.lowest.ensures.lowest_value c.in_ok-to.was _ c.contact_word.ensures c.in_default.is
 
 pub returns-in_default-clause-count_bound : goal.returns-in_default-clause-count_bound
 returns-in_default-clause-count_bound c =
@@ -39,7 +39,7 @@ returns-in_default-clause-count_bound c =
 
 pub loop-k-preserved : goal.loop-k-preserved
 loop-k-preserved c =
-    walk_on c.loop-k.invariant c.animals-n.ensures c.loop-k-test.true c.lowest.ensures.lowest_value c.in_ok-to.was _ c.contact_word.ensures c.in_ok-to.ensures.lead_bound c.in-On.is
+    walk_on c.loop-k.invariant c.animals-n.ensures (omega arith) c.lowest.ensures.lowest_value c.in_ok-to.was _ c.contact_word.ensures c.in_ok-to.ensures.lead_bound c.in-On.is
 
 pub returns-clause-words_value : goal.returns-clause-words_value
-returns-clause-words_value c = walk_long c.loop-k.invariant c.animals-n.ensures c.loop-k-test.false
+returns-clause-words_value c = walk_long c.loop-k.invariant c.animals-n.ensures (omega arith)
